@@ -1,0 +1,5 @@
+-- The words that the contracts of `io_ports` cite.
+pub mod Faults
+pub mod MemStreams
+pub mod RowItems
+pub mod Streams
