@@ -1,0 +1,10 @@
+//! Heads of FUSE requests and replies, and little-endian fields, for whoever reads or writes frames.
+#![tactic(auto)]
+
+mod fields;
+mod in_head;
+mod out_head;
+
+pub use fields::{u16_at, u32_at, u64_at};
+pub use in_head::{HeadFault, InHead, LONGEST_FRAME, read_head, whole_frame};
+pub use out_head::write_out_head;
