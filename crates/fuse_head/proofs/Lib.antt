@@ -1,1 +1,2 @@
 pub mod LittleLemmas
+mod Writes

@@ -1,6 +1,6 @@
 -- The heads of the FUSE wire, after `struct fuse_in_header` and `struct fuse_out_header` of Linux fuse.h
 -- (protocol 7.31), and what a whole request frame is.
-use Rattle.std.specs.Prelude.{◌≡◌, ◌≤◌, ◌-◌, ◌%◌, ◌^◌, ◌++◌, ℕ, List, length}
+use Rattle.std.specs.Prelude.{◌≡◌, ◌<◌, ◌≤◌, ◌-◌, ◌%◌, ◌^◌, ◌++◌, ℕ, List, length}
 use Rattle.fuse_head.specs.Little.{u32_at, u32_bytes, u64_at, u64_bytes}
 use Rattle.fuse_head.specs.declared.in_head.InHead.{InHead}
 
@@ -16,6 +16,22 @@ in_head bytes = record {
   pid = u32_at bytes 32;
 }
 
+-- the text of a request head, 40 bytes: its fields in order and four bytes of padding
+abbrev pub in_head_text : InHead → List ℕ
+in_head_text head =
+    u32_bytes head.len ++ u32_bytes head.opcode ++ u64_bytes head.unique ++ u64_bytes head.node
+    ++ u32_bytes head.uid ++ u32_bytes head.gid ++ u32_bytes head.pid ++ u32_bytes 0
+
+-- each field of a head lies in the range of its type
+pub record IsHead (head : InHead) : Type 0 where
+  pub len : head.len < 2 ^ 32
+  pub opcode : head.opcode < 2 ^ 32
+  pub unique : head.unique < 2 ^ 64
+  pub node : head.node < 2 ^ 64
+  pub uid : head.uid < 2 ^ 32
+  pub gid : head.gid < 2 ^ 32
+  pub pid : head.pid < 2 ^ 32
+
 -- the bytes are one whole request: a head of 40 bytes, at most a page beside 131,072 bytes of content, and
 -- the length that the head tells
 pub record IsWholeFrame (bytes : List ℕ) : Type 0 where
@@ -29,4 +45,4 @@ negated errno = (2 ^ 32 - errno) % 2 ^ 32
 
 -- the text of a reply head, 16 bytes
 abbrev pub out_head : ℕ → ℕ → ℕ → List ℕ
-out_head len errno unique = (u32_bytes len ++ u32_bytes (negated errno)) ++ u64_bytes unique
+out_head len errno unique = u32_bytes len ++ u32_bytes (negated errno) ++ u64_bytes unique

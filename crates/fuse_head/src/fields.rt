@@ -1,4 +1,4 @@
-ghost use Rattle.std.specs.Prelude.{◌≡◌, ◌≤◌, ◌+◌, length};
+ghost use Rattle.std.specs.Prelude.{◌≡◌, ◌≤◌, ◌+◌, ◌++◌, drop, length, take};
 ghost use Rattle.fuse_head.specs.Little as little;
 
 use byteorder::{ByteOrder, LittleEndian};
@@ -28,4 +28,31 @@ pub fn u64_at(bytes: &[u8], place: usize) -> u64
     ensures { result ≡ little.u64_at bytes.now place }
 {
     LittleEndian::read_u64(&bytes[place..])
+}
+
+/// Writes the little-endian number into the two bytes from `place` on; what stands before and after them stays.
+pub fn put_u16(out: &mut [u8], place: usize, n: u16)
+    requires { place + 2 ≤ length out.old }
+    ensures front { take (place + 2) out.new ≡ take place out.old ++ little.u16_bytes n }
+    ensures kept { drop (place + 2) out.new ≡ drop (place + 2) out.old }
+{
+    LittleEndian::write_u16(&mut out[place..], n);
+}
+
+/// Writes the little-endian number into the four bytes from `place` on; what stands before and after them stays.
+pub fn put_u32(out: &mut [u8], place: usize, n: u32)
+    requires { place + 4 ≤ length out.old }
+    ensures front { take (place + 4) out.new ≡ take place out.old ++ little.u32_bytes n }
+    ensures kept { drop (place + 4) out.new ≡ drop (place + 4) out.old }
+{
+    LittleEndian::write_u32(&mut out[place..], n);
+}
+
+/// Writes the little-endian number into the eight bytes from `place` on; what stands before and after them stays.
+pub fn put_u64(out: &mut [u8], place: usize, n: u64)
+    requires { place + 8 ≤ length out.old }
+    ensures front { take (place + 8) out.new ≡ take place out.old ++ little.u64_bytes n }
+    ensures kept { drop (place + 8) out.new ≡ drop (place + 8) out.old }
+{
+    LittleEndian::write_u64(&mut out[place..], n);
 }

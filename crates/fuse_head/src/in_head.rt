@@ -1,8 +1,8 @@
 ghost use Rattle.std.specs.Prelude.{◌≡◌, ◌≤◌, ◌<◌, ◌↔◌, length, IfOk, IsErrOf, IsTrue};
-ghost use Rattle.fuse_head.specs.Head.{in_head, IsWholeFrame};
+ghost use Rattle.fuse_head.specs.Head.{in_head, in_head_text, IsWholeFrame};
 ghost use Rattle.fuse_head.specs.Little as little;
 
-use crate::fields::{u32_at, u64_at};
+use crate::fields::{put_u32, put_u64, u32_at, u64_at};
 
 /// The most bytes of a request frame: 131,072 of content and a page of 4,096 for what stands before it.
 pub const LONGEST_FRAME: u32 = 135_168;
@@ -61,6 +61,20 @@ pub fn whole_frame(bytes: &[u8]) -> bool
     bytes.len() >= 40
         && bytes.len() <= LONGEST_FRAME as usize
         && u32_at(bytes, 0) as usize == bytes.len()
+}
+
+/// Writes the text of a request head, its padding as zeros.
+pub fn write_in_head(head: &InHead, out: &mut [u8; 40])
+    ensures { out.new ≡ in_head_text head.now }
+{
+    put_u32(out, 0, head.len);
+    put_u32(out, 4, head.opcode);
+    put_u64(out, 8, head.unique);
+    put_u64(out, 16, head.node);
+    put_u32(out, 24, head.uid);
+    put_u32(out, 28, head.gid);
+    put_u32(out, 32, head.pid);
+    put_u32(out, 36, 0);
 }
 
 fn head_at_front(bytes: &[u8]) -> InHead

@@ -4,7 +4,9 @@
 mod fields;
 mod in_head;
 mod out_head;
+#[cfg(test)]
+mod tests;
 
-pub use fields::{u16_at, u32_at, u64_at};
-pub use in_head::{HeadFault, InHead, LONGEST_FRAME, read_head, whole_frame};
+pub use fields::{put_u16, put_u32, put_u64, u16_at, u32_at, u64_at};
+pub use in_head::{HeadFault, InHead, LONGEST_FRAME, read_head, whole_frame, write_in_head};
 pub use out_head::write_out_head;
