@@ -1,7 +1,7 @@
 -- Laws of the little-endian words, for callers: a field of lists that are joined or cut, and a field read
 -- back from the bytes of its number.
-use Rattle.std.proofs.Common.{◌≡◌, ◌≤◌, ◌<◌, ◌+◌, ◌^◌, ℕ, List, ◌++◌, length, drop, ap, arith}
-use Rattle.std.proofs.lemmas.List.{drop-append-le, length-drop}
+use Rattle.std.proofs.Common.{◌≡◌, ◌≤◌, ◌<◌, ◌+◌, ◌^◌, ℕ, List, ◌++◌, ◌∙◌, length, drop, ap, arith}
+use Rattle.std.proofs.lemmas.List.{drop_at, drop-append-le, length-drop}
 use Rattle.std.proofs.Math.Seq.{drop-append-add}
 use Rattle.byteorder.specs.Endian.{little_number}
 use Rattle.byteorder.specs.Numbers.{length-bytes_low_first, little_from-append, little_number-reads_back}
@@ -64,3 +64,14 @@ u32_at-bytes n rest fits = little_number-reads_back 4 n rest fits
 pub u64_at-bytes : (n : ℕ) (rest : List ℕ) → n < 2 ^ 64 → u64_at (u64_bytes n ++ rest) 0 ≡ n
 unfolding u64_at u64_bytes
 u64_at-bytes n rest fits = little_number-reads_back 8 n rest fits
+
+-- the same behind other bytes
+pub u32_at-field : (xs rest : List ℕ) (n place : ℕ) → length xs ≡ place → n < 2 ^ 32 → u32_at (xs ++ (u32_bytes n ++ rest)) place ≡ n
+unfolding u32_at
+u32_at-field xs rest n place here fits =
+    ap (little_number 4) (drop_at xs (u32_bytes n ++ rest) place here) ∙ u32_at-bytes n rest fits
+
+pub u64_at-field : (xs rest : List ℕ) (n place : ℕ) → length xs ≡ place → n < 2 ^ 64 → u64_at (xs ++ (u64_bytes n ++ rest)) place ≡ n
+unfolding u64_at
+u64_at-field xs rest n place here fits =
+    ap (little_number 8) (drop_at xs (u64_bytes n ++ rest) place here) ∙ u64_at-bytes n rest fits
