@@ -1,0 +1,2 @@
+-- What the settings of a mount may be.
+pub mod Configs
