@@ -1,0 +1,30 @@
+-- How a stream of bytes is cut into request frames, all of it at once.
+use Rattle.std.specs.Prelude.{◌≡◌, ◌<◌, ◌≤◌, ◌++◌, ℕ, List, All, length, take}
+use Rattle.std.specs.List.{concat}
+use Rattle.fuse_head.specs.Head.{IsWholeFrame}
+use Rattle.fuse_head.specs.Little.{u32_at}
+
+-- no whole frame stands at the front of the bytes
+abbrev pub IsUnfinished : List ℕ → Type 0
+IsUnfinished rest = (n : ℕ) → ¬ IsWholeFrame (take n rest)
+
+-- the stream is these whole frames, one behind the other, and a rest that begins with none
+pub record Cuts (stream : List ℕ) (frames : List (List ℕ)) (rest : List ℕ) : Type 0 where
+  pub joined : stream ≡ concat frames ++ rest
+  pub whole : All IsWholeFrame frames
+  pub unfinished : IsUnfinished rest
+
+-- the four bytes of a len are there, and it is below 40
+pub record IsBelow40 (rest : List ℕ) : Type 0 where
+  pub told : 4 ≤ length rest
+  pub below : u32_at rest 0 < 40
+
+-- the four bytes of a len are there, and it is above 135,168
+pub record IsOver (rest : List ℕ) : Type 0 where
+  pub told : 4 ≤ length rest
+  pub over : 135168 < u32_at rest 0
+
+-- the four bytes of a len aren't all there, or it is one that a frame may have
+pub record IsSound (rest : List ℕ) : Type 0 where
+  pub least : 4 ≤ length rest → 40 ≤ u32_at rest 0
+  pub most : 4 ≤ length rest → u32_at rest 0 ≤ 135168
