@@ -65,7 +65,7 @@ unfinished_none bytes (inr bad) = unfinished_bad bytes bad
 
 -- the frame at the front goes to the frames that were cut
 pub joined_push : {left frame behind : List ℕ} (bytes : List ℕ) (frames : List (List ℕ)) → bytes ≡ concat frames ++ left → Begins left frame behind
-  → bytes ≡ concat (frames ++ frame ∷ []) ++ behind
+    → bytes ≡ concat (frames ++ frame ∷ []) ++ behind
 joined_push {left} {frame} {behind} bytes frames joined begins =
     rw (joined, begins.joined, concat-push frames frame, append_assoc) refl
 
@@ -73,7 +73,7 @@ joined_push {left} {frame} {behind} bytes frames joined begins =
 told_in_old : (old mid : List ℕ) (len : ℕ) → TellsLen mid len → length old ≤ length mid → take (length old) mid ≡ old → len ≤ length old → TellsLen old len
 told_in_old old mid len tells shorter kept there =
     let same : u32_at old 0 ≡ len =
-        ap (λ (b : List ℕ). u32_at b 0) (sym kept) ∙ len-take (length old) mid (rw kept (omega (arith, tells.least))) ∙ tells.is in
+    ap (λ (b : List ℕ). u32_at b 0) (sym kept) ∙ len-take (length old) mid (rw kept (omega (arith, tells.least))) ∙ tells.is in
     record { told = omega (arith, tells.least); is = same; least = tells.least; most = tells.most }
 
 -- a rest of as many bytes as its good len tells is a frame
@@ -83,11 +83,11 @@ grown_whole new len tells fits enough =
 
 -- a rest of at most as many bytes as its good len tells is whole, or it isn't and nothing was left over
 grown_front : (new left : List ℕ) (len : ℕ) → TellsLen new len → length new ≤ len → (len ≤ length new) ⊎ (left ≡ [])
-  → IsWholeFrame new ⊎ ((IsSound new × IsUnfinished new × (left ≡ [])) ⊎ (IsBad new × (length new ≡ 4)))
+    → IsWholeFrame new ⊎ ((IsSound new × IsUnfinished new × (left ≡ [])) ⊎ (IsBad new × (length new ≡ 4)))
 grown_front new left len tells fits (inl enough) = inl (grown_whole new len tells fits enough)
 grown_front new left len tells fits (inr none) =
     elim (cases_lt (length new) len) [
-      inl less ↦ inr (inl (
+      | inl less ↦ inr (inl (
         record { least = λ _. omega (arith, tells.is, tells.least); most = λ _. omega (arith, tells.is, tells.most) },
         unfinished_short new (omega (arith, tells.is)),
         none,
@@ -97,23 +97,23 @@ grown_front new left len tells fits (inr none) =
 
 -- a rest that grew to the four bytes of a good len, and then by the bytes that the len wants
 pub grows_to_len : (old bytes mid behind new left : List ℕ) (len : ℕ) → IsUnfinished old → Fills old 4 bytes mid behind → TellsLen mid len → Fills mid len behind new left
-  → GrowsTo old bytes new left
+    → GrowsTo old bytes new left
 grows_to_len old bytes mid behind new left len unfinished head tells body =
     let old_in_mid = ap length head.kept in
     let mid_in_new = ap length body.kept in
     let old_le_mid : length old ≤ length mid = omega (arith, length-take (length old) mid, old_in_mid) in
     let mid_le_new : length mid ≤ length new = omega (arith, length-take (length mid) new, mid_in_new) in
     let kept : take (length old) new ≡ old =
-        sym (take-take (length old) (length mid) new old_le_mid) ∙ ap (take (length old)) body.kept ∙ head.kept in
+    sym (take-take (length old) (length mid) new old_le_mid) ∙ ap (take (length old)) body.kept ∙ head.kept in
     let len_new : u32_at new 0 ≡ len =
-        sym (len-take (length mid) new (omega (arith, tells.told, mid_in_new))) ∙ ap (λ (b : List ℕ). u32_at b 0) body.kept ∙ tells.is in
+    sym (len-take (length mid) new (omega (arith, tells.told, mid_in_new))) ∙ ap (λ (b : List ℕ). u32_at b 0) body.kept ∙ tells.is in
     let short : length old < len = elim (cases_lt (length old) len) [
-      inl less ↦ less
+      | inl less ↦ less
       | inr there ↦ absurd (unfinished len (whole_take old len (told_in_old old mid len tells old_le_mid head.kept there) there))
     ] in
     record {
       joined = head.joined ∙ body.joined;
       kept = kept;
       front = grown_front new left len (record { told = omega (arith, tells.told); is = len_new; least = tells.least; most = tells.most })
-        (omega (arith, head.most, body.most, tells.least)) body.enough;
+          (omega (arith, head.most, body.most, tells.least)) body.enough;
     }

@@ -1,3 +1,4 @@
 pub mod Cut
 pub mod Cutter
 pub mod Front
+pub mod Kept

@@ -1,9 +1,10 @@
 //! Cuts a stream of bytes into FUSE request frames, whatever pieces it comes in, for whoever reads a kernel's side.
 #![tactic(auto)]
 
-
+mod cutter;
 mod fault;
 mod front;
+mod pieces;
 
-
+pub use cutter::FrameCutter;
 pub use fault::CutFault;

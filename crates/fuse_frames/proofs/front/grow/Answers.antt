@@ -10,5 +10,5 @@ returns-in-Some-clause-ok c =
     (λ left. Fills c.fill.new.rest.items c.in-Some.len c.in_ok-behind.behind.now c.fill-in-Some.new.rest.items left.now)
     (λ left. GrowsTo c.args.rest.now.items c.args.bytes.now c.fill-in-Some.new.rest.items left.now)
     (λ left body. grows_to_len c.args.rest.now.items c.args.bytes.now c.fill.new.rest.items c.in_ok-behind.behind.now c.fill-in-Some.new.rest.items left.now c.in-Some.len
-      c.requires.unfinished c.in_ok-behind.ensures.ok (rw c.as_slice.ensures.value at c.in-Some.ensures) body)
+    c.requires.unfinished c.in_ok-behind.ensures.ok (rw c.as_slice.ensures.value at c.in-Some.ensures) body)
     c.fill-in-Some.ensures.ok

@@ -1,0 +1,125 @@
+ghost use Rattle.std.specs.Prelude.{◌≡◌, ◌≤◌, ◌+◌, ◌^◌, length};
+ghost use Rattle.fuse_frames.specs.Cut.{IsSound};
+ghost use Rattle.fuse_frames.specs.Cutter.{Fed, Finishes, Gives, fed, fresh};
+ghost use Rattle.fuse_frames.specs.Kept.{IsKept, Says, TakenIn};
+
+use crate::fault::CutFault;
+use crate::front::bad_len;
+use crate::pieces::{Pieces, advance, hold};
+use io_ports::{Bytes, NoMemory};
+use std::alloc::Global;
+use std::collections::VecDeque;
+use std::marker::Model;
+use std::mem;
+
+/// Cuts a stream of bytes into whole request frames, in whatever pieces the bytes come. Contracts see the number of
+/// bytes of the frames that it has given, the frames that wait, and the bytes behind them.
+#[derive(Drop)]
+pub struct FrameCutter {
+    held: VecDeque<Bytes>,
+    rest: Vec<u8>,
+    given: u64,
+    rest_place: u64,
+}
+
+impl Model for FrameCutter {
+    ghost use Rattle.std.specs.Prelude.{◌≡◌};
+    ghost use Rattle.fuse_frames.specs.Cutter.{Cutter, place};
+    ghost use Rattle.fuse_frames.specs.Kept.{IsKept};
+
+    ghost Value = { Cutter };
+
+    ghost view = { λ c. record { given = c.given; held = c.held.items; rest = c.rest.items } };
+
+    ghost invariant = { λ c. let cutter : Cutter = record { given = c.given; held = c.held.items; rest = c.rest.items } in IsKept cutter × (c.rest_place ≡ place cutter) };
+}
+
+impl FrameCutter {
+    /// A cutter that has been fed nothing. It asks for no memory yet.
+    pub fn new(alloc: Global) -> FrameCutter
+        ensures { result ≡ fresh }
+    {
+        FrameCutter {
+            held: VecDeque::new(alloc),
+            rest: Vec::new(alloc),
+            given: 0,
+            rest_place: 0,
+        }
+    }
+
+    /// Takes in the next bytes of the stream. The frames that they make whole wait for [`FrameCutter::next`].
+    ///
+    /// `LenBelow40` and `LenOver` come exactly where the four bytes of such a len have been fed, with the place of
+    /// that frame's first byte; frames before it can still be taken, and from then on every call answers the same.
+    /// `NoMemory` leaves all as it was. `Truncated` never comes here.
+    pub fn feed(&mut self, bytes: &[u8]) -> Result<(), CutFault>
+        requires { fed self.old + length bytes.now ≤ 2 ^ 62 }
+        ensures { Fed self.old bytes.now result self.new }
+    {
+        if let Err(fault) = self.sound() {
+            return Err(fault);
+        }
+        if let Err(NoMemory) = self.take_in(bytes) {
+            return Err(CutFault::NoMemory);
+        }
+        self.sound()
+    }
+
+    /// The frame that has waited longest; none where no whole frame waits.
+    pub fn next(&mut self) -> Option<Bytes>
+        ensures { Gives self.old result self.new }
+    {
+        let Some(frame) = self.held.pop_front() else {
+            return None;
+        };
+        self.given += frame.as_slice().len() as u64;
+        Some(frame)
+    }
+
+    /// Ends the stream. A bad len is answered as [`FrameCutter::feed`] answers it; else `Truncated` comes exactly where
+    /// bytes stand behind the last whole frame. It asks for no memory, and frames that still wait are let go.
+    pub fn finish(self) -> Result<(), CutFault>
+        ensures { Finishes self result }
+    {
+        if let Err(fault) = self.sound() {
+            return Err(fault);
+        }
+        if self.rest.is_empty() {
+            return Ok(());
+        }
+        Err(CutFault::Truncated(self.rest_place))
+    }
+
+    /// The bad len that was come upon, with its place.
+    fn sound(&self) -> Result<(), CutFault>
+        ensures says { Says self.now result }
+        ensures kept { IsKept self.now }
+    {
+        match bad_len(self.rest.as_slice(), self.rest_place) {
+            Some(fault) => Err(fault),
+            None => Ok(()),
+        }
+    }
+
+    fn take_in(&mut self, bytes: &[u8]) -> Result<(), NoMemory>
+        requires sound { IsSound self.old.rest }
+        requires room { fed self.old + length bytes.now ≤ 2 ^ 62 }
+        ensures { TakenIn self.old bytes.now result self.new }
+    {
+        let begun = self.rest.len();
+        match advance(&mut self.held, &mut self.rest, bytes) {
+            Err(NoMemory) => {
+                self.rest.truncate(begun);
+                Err(NoMemory)
+            }
+            Ok(None) => Ok(()),
+            Ok(Some(pieces)) => {
+                let Pieces { frames, rest, size } = pieces;
+                let frame = mem::replace(&mut self.rest, rest);
+                self.rest_place += (frame.len() + size) as u64;
+                hold(&mut self.held, frame, frames);
+                Ok(())
+            }
+        }
+    }
+}
