@@ -1,2 +1,4 @@
 pub mod CutLemmas
+pub mod CutterLemmas
+pub mod FrontLemmas
 mod Steps

@@ -4,27 +4,14 @@ use Rattle.std.specs.List.{concat}
 use Rattle.std.proofs.lemmas.List.{append-nil, append_assoc, length-append, length-take, take_at}
 use Rattle.std.proofs.lemmas.List.Elements.{All-append, All-push, All-rest}
 use Rattle.fuse_head.specs.Head.{IsWholeFrame}
-use Rattle.fuse_head.proofs.LittleLemmas.{u32_at-append}
-use Rattle.fuse_frames.specs.Cut.{Cuts, IsBelow40, IsOver, IsSound, IsUnfinished}
+use Rattle.fuse_frames.specs.Cut.{Cuts, IsBad, IsUnfinished, Keeps}
 use Rattle.fuse_frames.specs.Cutter.{Cutter, Fed, pending}
-use Rattle.fuse_frames.specs.Front.{GrowsTo, IsBad}
-use Rattle.fuse_frames.specs.Kept.{Ends, IsKept, Keeps, Says, TakesIn, Waits}
-use Rattle.fuse_frames.proofs.CutLemmas.{concat-push, len-take, unfinished_bad}
+use Rattle.fuse_frames.specs.Front.{GrowsTo}
+use Rattle.fuse_frames.specs.Kept.{Ends, IsKept, Says, TakesIn, Waits}
+use Rattle.fuse_frames.proofs.CutLemmas.{concat-append}
+use Rattle.fuse_frames.proofs.FrontLemmas.{bad_append, bad_told, below_append, below_take, concat-push, over_append, over_take, sound_not_bad, take_bad, unfinished_bad}
 use Rattle.fuse_frames.specs.declared.fault.CutFault.{CutFault}
 use Rattle.fuse_frames.specs.declared.fault.CutFault.TheVariants.{LenBelow40, LenOver, NoMemory, Truncated}
-
--- a bad len stays bad, whatever stands behind it
-pub below_append : (rest more : List ℕ) → IsBelow40 rest → IsBelow40 (rest ++ more)
-below_append rest more bad =
-    record { told = omega (arith, bad.told, length-append rest more); below = rw (u32_at-append rest more 0 bad.told) bad.below }
-
-pub over_append : (rest more : List ℕ) → IsOver rest → IsOver (rest ++ more)
-over_append rest more bad =
-    record { told = omega (arith, bad.told, length-append rest more); over = rw (u32_at-append rest more 0 bad.told) bad.over }
-
-pub bad_append : (rest more : List ℕ) → IsBad rest → IsBad (rest ++ more)
-bad_append rest more (inl bad) = inl (below_append rest more bad)
-bad_append rest more (inr bad) = inr (over_append rest more bad)
 
 -- a frame that isn't whole yet waits, or its len is bad
 pub waits : (old bytes new left : List ℕ) → GrowsTo old bytes new left → (IsWholeFrame new → ⊥) → Waits old bytes new
@@ -42,32 +29,6 @@ waits old bytes new left grows not_whole =
           }
       ]
     ]
-
--- a len isn't good and bad at once
-pub sound_not_bad : (rest : List ℕ) → IsSound rest → IsBad rest → ⊥
-sound_not_bad rest sound (inl bad) = omega (arith, sound.least bad.told, bad.below)
-sound_not_bad rest sound (inr bad) = omega (arith, sound.most bad.told, bad.over)
-
--- four bytes tell as much of a len as all bytes
-below_take : (rest : List ℕ) → IsBelow40 (take 4 rest) → IsBelow40 rest
-below_take rest bad =
-    record { told = omega (arith, bad.told, length-take 4 rest); below = rw (len-take 4 rest bad.told) at bad.below }
-
-over_take : (rest : List ℕ) → IsOver (take 4 rest) → IsOver rest
-over_take rest bad =
-    record { told = omega (arith, bad.told, length-take 4 rest); over = rw (len-take 4 rest bad.told) at bad.over }
-
-take_bad : (rest : List ℕ) → IsBad rest → IsBad (take 4 rest)
-take_bad rest (inl bad) =
-    let told : 4 ≤ length (take 4 rest) = omega (arith, bad.told, length-take 4 rest) in
-    inl (record { told = told; below = rw (len-take 4 rest told) bad.below })
-take_bad rest (inr bad) =
-    let told : 4 ≤ length (take 4 rest) = omega (arith, bad.told, length-take 4 rest) in
-    inr (record { told = told; over = rw (len-take 4 rest told) bad.over })
-
-bad_told : (rest : List ℕ) → IsBad rest → 4 ≤ length rest
-bad_told rest (inl bad) = bad.told
-bad_told rest (inr bad) = bad.told
 
 -- what is kept of a rest begins with no frame, and of a bad len it has four bytes
 pub keeps_unfinished : (rest kept : List ℕ) → Keeps rest kept → IsUnfinished rest → IsUnfinished kept
@@ -124,12 +85,6 @@ pub gives_kept : (given place_now : ℕ) (held left : List (List ℕ)) (rest fra
 gives_kept given place_now held left rest frame kept counted first =
     let size : length (concat held) ≡ length frame + length (concat left) = ap (λ (h : List (List ℕ)). length (concat h)) first ∙ length-append frame (concat left) in
     (record { whole = All-rest IsWholeFrame frame left held first kept.whole; unfinished = kept.unfinished; four = kept.four }, omega (arith, counted, size))
-
--- the frames of two lists of frames, joined
-pub concat-append : (front back : List (List ℕ)) → concat (front ++ back) ≡ concat front ++ concat back
-concat-append [] back = refl
-concat-append (frame ∷ front) back =
-    ap (λ (b : List ℕ). frame ++ b) (concat-append front back) ∙ sym (append_assoc frame (concat front) (concat back))
 
 -- the frames held, the one that became whole, and those behind it
 concat_all : (held : List (List ℕ)) (frame : List ℕ) (frames : List (List ℕ)) → concat (held ++ frame ∷ [] ++ frames) ≡ concat held ++ (frame ++ concat frames)

@@ -1,5 +1,5 @@
 -- How a stream of bytes is cut into request frames, all of it at once.
-use Rattle.std.specs.Prelude.{◌≡◌, ◌<◌, ◌≤◌, ◌++◌, ℕ, List, All, length, take}
+use Rattle.std.specs.Prelude.{◌≡◌, ◌<◌, ◌≤◌, ◌++◌, ◌⊎◌, ℕ, List, All, length, take}
 use Rattle.std.specs.List.{concat}
 use Rattle.fuse_head.specs.Head.{IsWholeFrame}
 use Rattle.fuse_head.specs.Little.{u32_at}
@@ -28,3 +28,11 @@ pub record IsOver (rest : List ℕ) : Type 0 where
 pub record IsSound (rest : List ℕ) : Type 0 where
   pub least : 4 ≤ length rest → 40 ≤ u32_at rest 0
   pub most : 4 ≤ length rest → u32_at rest 0 ≤ 135168
+
+-- a bad len stands at the front
+abbrev pub IsBad : List ℕ → Type 0
+IsBad rest = IsBelow40 rest ⊎ IsOver rest
+
+-- what is kept of a rest: all of it, or the four bytes of a bad len
+abbrev pub Keeps : List ℕ → List ℕ → Type 0
+Keeps rest kept = (IsSound rest × (kept ≡ rest)) ⊎ (IsBad rest × (kept ≡ take 4 rest))

@@ -2,7 +2,7 @@
 use Rattle.std.specs.Prelude.{◌≡◌, ◌≢◌, ◌+◌, ◌++◌, ℕ, List, [], ◌∷◌, Option, None, Some, Result, Ok, Err, length, take}
 use Rattle.std.specs.List.{concat}
 use Rattle.fuse_head.specs.Head.{IsWholeFrame}
-use Rattle.fuse_frames.specs.Cut.{Cuts, IsBelow40, IsOver, IsSound}
+use Rattle.fuse_frames.specs.Cut.{Cuts, IsBelow40, IsOver, IsSound, Keeps}
 use Rattle.fuse_frames.specs.declared.fault.CutFault.{CutFault}
 use Rattle.fuse_frames.specs.declared.fault.CutFault.TheVariants.{LenBelow40, LenOver, NoMemory, Truncated}
 
@@ -72,3 +72,24 @@ Finishes cutter (Err NoMemory) = ⊥
 Finishes cutter (Err (LenBelow40 at)) = IsBelow40 cutter.rest × (at ≡ place cutter)
 Finishes cutter (Err (LenOver at)) = IsOver cutter.rest × (at ≡ place cutter)
 Finishes cutter (Err (Truncated at)) = IsSound cutter.rest × (cutter.rest ≢ []) × (at ≡ place cutter)
+
+-- the cutter has been fed this stream and has given these frames: they and those that it holds are the frames of the
+-- stream, however it was fed
+pub record HasRead (stream : List ℕ) (gave : List (List ℕ)) (cutter : Cutter) : Type 0 where
+  pub rest : List ℕ
+  pub cut : Cuts stream (gave ++ cutter.held) rest
+  pub given : cutter.given ≡ length (concat gave)
+  pub kept : Keeps rest cutter.rest
+
+-- the stream with the bytes that a call of `feed` has taken in
+abbrev pub stream_after : {U : Type 0} → List ℕ → List ℕ → Result U CutFault → List ℕ
+stream_after stream bytes (Ok _) = stream ++ bytes
+stream_after stream bytes (Err NoMemory) = stream
+stream_after stream bytes (Err (LenBelow40 at)) = stream ++ bytes
+stream_after stream bytes (Err (LenOver at)) = stream ++ bytes
+stream_after stream bytes (Err (Truncated at)) = stream
+
+-- the frames given with the one that a call of `next` gives
+abbrev pub gave_after : List (List ℕ) → Option (List ℕ) → List (List ℕ)
+gave_after gave None = gave
+gave_after gave (Some frame) = gave ++ frame ∷ []

@@ -2,13 +2,9 @@
 use Rattle.std.specs.Prelude.{◌≡◌, ◌<◌, ◌≤◌, ◌++◌, ◌⊎◌, ℕ, List, [], Option, None, Some, length, max, take}
 use Rattle.fuse_head.specs.Head.{IsWholeFrame}
 use Rattle.fuse_head.specs.Little.{u32_at}
-use Rattle.fuse_frames.specs.Cut.{IsBelow40, IsOver, IsSound, IsUnfinished}
+use Rattle.fuse_frames.specs.Cut.{IsBad, IsBelow40, IsOver, IsSound, IsUnfinished}
 use Rattle.fuse_frames.specs.declared.fault.CutFault.{CutFault}
 use Rattle.fuse_frames.specs.declared.fault.CutFault.TheVariants.{LenBelow40, LenOver, NoMemory, Truncated}
-
--- the bytes begin with a bad len
-abbrev pub IsBad : List ℕ → Type 0
-IsBad rest = IsBelow40 rest ⊎ IsOver rest
 
 -- which bad len the bytes begin with, named with their place
 abbrev pub SaysBadLen : List ℕ → ℕ → Option CutFault → Type 0

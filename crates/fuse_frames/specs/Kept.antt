@@ -1,10 +1,9 @@
 -- What a cutter keeps true of its own fields, and what its steps make of them.
-use Rattle.std.specs.Prelude.{◌≡◌, ◌++◌, ◌⊎◌, ℕ, List, All, Result, Ok, Err, length, take}
+use Rattle.std.specs.Prelude.{◌≡◌, ◌++◌, ℕ, List, All, Result, Ok, Err, length}
 use Rattle.std.specs.List.{concat}
 use Rattle.fuse_head.specs.Head.{IsWholeFrame}
-use Rattle.fuse_frames.specs.Cut.{Cuts, IsBelow40, IsOver, IsSound, IsUnfinished}
+use Rattle.fuse_frames.specs.Cut.{Cuts, IsBad, IsBelow40, IsOver, IsSound, IsUnfinished, Keeps}
 use Rattle.fuse_frames.specs.Cutter.{Cutter, pending, place}
-use Rattle.fuse_frames.specs.Front.{IsBad}
 use Rattle.fuse_frames.specs.declared.fault.CutFault.{CutFault}
 use Rattle.fuse_frames.specs.declared.fault.CutFault.TheVariants.{LenBelow40, LenOver, NoMemory, Truncated}
 
@@ -13,10 +12,6 @@ pub record IsKept (cutter : Cutter) : Type 0 where
   pub whole : All IsWholeFrame cutter.held
   pub unfinished : IsUnfinished cutter.rest
   pub four : IsBad cutter.rest → length cutter.rest ≡ 4
-
--- what is kept of a rest: all of it, or the four bytes of a bad len
-abbrev pub Keeps : List ℕ → List ℕ → Type 0
-Keeps rest kept = (IsSound rest × (kept ≡ rest)) ⊎ (IsBad rest × (kept ≡ take 4 rest))
 
 -- bytes were cut into frames and what is kept of their rest, and the frames have so many bytes
 pub record IsPieces (bytes : List ℕ) (frames : List (List ℕ)) (kept : List ℕ) (size : ℕ) : Type 0 where

@@ -1,7 +1,7 @@
 ghost use Rattle.std.specs.Prelude.{◌≡◌, ◌≤◌, ◌+◌, ◌++◌, [], ◌∷◌, IfNone, IfOk, IfSome, OnErr, length, take};
 ghost use Rattle.std.specs.VecDeque.{deque_capacity, deque_len};
-ghost use Rattle.fuse_frames.specs.Cut.{IsSound, IsUnfinished};
-ghost use Rattle.fuse_frames.specs.Kept.{Ends, IsPieces, Keeps, Waits};
+ghost use Rattle.fuse_frames.specs.Cut.{IsSound, IsUnfinished, Keeps};
+ghost use Rattle.fuse_frames.specs.Kept.{Ends, IsPieces, Waits};
 
 use crate::front::{bad_len, grow, whole_frames};
 use fuse_head::whole_frame;

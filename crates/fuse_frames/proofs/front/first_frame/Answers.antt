@@ -1,7 +1,7 @@
 -- As many bytes as the len tells are a frame; with fewer, or without a good len, there is none.
 use Rattle.std.proofs.Common.{sym, arith}
 use Rattle.std.proofs.lemmas.List.{take-append-drop}
-use Rattle.fuse_frames.proofs.CutLemmas.{unfinished_none, unfinished_short, whole_take}
+use Rattle.fuse_frames.proofs.FrontLemmas.{unfinished_none, unfinished_short, whole_take}
 use Rattle.fuse_frames.proofs.front.first_frame.Goals as goal
 
 pub returns-in_default : goal.returns-in_default

@@ -1,7 +1,7 @@
 -- With a good len the rest grows by what the len wants; without one it stays as it is.
 use Rattle.std.proofs.lemmas.Result.{IfOk-weaker}
 use Rattle.fuse_frames.specs.Front.{Fills, GrowsTo}
-use Rattle.fuse_frames.proofs.CutLemmas.{grows_to_len}
+use Rattle.fuse_frames.proofs.FrontLemmas.{grows_to_len}
 use Rattle.fuse_frames.proofs.front.grow.Goals as goal
 
 pub returns-in-Some-clause-ok : goal.returns-in-Some-clause-ok

@@ -1,7 +1,7 @@
 -- The frame at the front of what was left goes behind the frames that were cut.
 use Rattle.std.proofs.lemmas.List.Elements.{All-push}
 use Rattle.fuse_head.specs.Head.{IsWholeFrame}
-use Rattle.fuse_frames.proofs.CutLemmas.{joined_push}
+use Rattle.fuse_frames.proofs.FrontLemmas.{joined_push}
 use Rattle.fuse_frames.proofs.front.whole_frames.Goals as goal
 
 pub loop-frame-preserved : goal.loop-frame-preserved
