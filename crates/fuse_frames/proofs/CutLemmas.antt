@@ -36,13 +36,13 @@ no_front rest frame behind unfinished whole same =
 
 -- what stands behind the first of two equal lists of frames is equal too
 same_behind : (x y : List ℕ) (frames others : List (List ℕ)) (rest other : List ℕ) → x ≡ y → x ++ concat frames ++ rest ≡ y ++ concat others ++ other
-  → concat frames ++ rest ≡ concat others ++ other
+    → concat frames ++ rest ≡ concat others ++ other
 same_behind x y frames others rest other first same =
     append_cancel_left x (concat frames ++ rest) (concat others ++ other)
     (sym (append_assoc x (concat frames) rest) ∙ same ∙ append_assoc y (concat others) other ∙ ap (λ (b : List ℕ). b ++ (concat others ++ other)) (sym first))
 
 unique : (frames others : List (List ℕ)) (rest other : List ℕ) → concat frames ++ rest ≡ concat others ++ other → All IsWholeFrame frames → All IsWholeFrame others
-  → IsUnfinished rest → IsUnfinished other → (frames ≡ others) × (rest ≡ other)
+    → IsUnfinished rest → IsUnfinished other → (frames ≡ others) × (rest ≡ other)
 unique [] [] rest other same whole whole' early late = (refl, same)
 unique [] (y ∷ others) rest other same whole whole' early late =
     absurd (no_front rest y (concat others ++ other) early (All-head IsWholeFrame y others whole') (same ∙ append_assoc y (concat others) other))
@@ -50,28 +50,28 @@ unique (x ∷ frames) [] rest other same whole whole' early late =
     absurd (no_front other x (concat frames ++ rest) late (All-head IsWholeFrame x frames whole) (sym same ∙ append_assoc x (concat frames) rest))
 unique (x ∷ frames) (y ∷ others) rest other same whole whole' early late =
     let first : x ≡ y =
-        same_first x y (concat frames ++ rest) (concat others ++ other) (All-head IsWholeFrame x frames whole) (All-head IsWholeFrame y others whole')
-        (sym (append_assoc x (concat frames) rest) ∙ same ∙ append_assoc y (concat others) other) in
+    same_first x y (concat frames ++ rest) (concat others ++ other) (All-head IsWholeFrame x frames whole) (All-head IsWholeFrame y others whole')
+    (sym (append_assoc x (concat frames) rest) ∙ same ∙ append_assoc y (concat others) other) in
     let behind = unique frames others rest other (same_behind x y frames others rest other first same) (All-tail IsWholeFrame x frames whole) (All-tail IsWholeFrame y others whole') early late in
     (ap (λ (f : List ℕ). f ∷ frames) first ∙ ap (λ (fs : List (List ℕ)). y ∷ fs) behind.0, behind.1)
 
 -- a stream has one cut
 pub cuts_unique : {stream : List ℕ} {frames others : List (List ℕ)} {rest other : List ℕ} → Cuts stream frames rest → Cuts stream others other
-  → (frames ≡ others) × (rest ≡ other)
+    → (frames ≡ others) × (rest ≡ other)
 cuts_unique {stream} {frames} {others} {rest} {other} a b =
     unique frames others rest other (sym a.joined ∙ b.joined) a.whole b.whole a.unfinished b.unfinished
 
 -- the cut of a stream and then of what was left with more behind it is the cut of both
 pub cuts_append : {stream : List ℕ} {frames others : List (List ℕ)} {rest other : List ℕ} (more : List ℕ) → Cuts stream frames rest → Cuts (rest ++ more) others other
-  → Cuts (stream ++ more) (frames ++ others) other
+    → Cuts (stream ++ more) (frames ++ others) other
 cuts_append {stream} {frames} {others} {rest} {other} more first second =
     record {
       joined =
-        ap (λ (b : List ℕ). b ++ more) first.joined
-        ∙ append_assoc (concat frames) rest more
-        ∙ ap (λ (b : List ℕ). concat frames ++ b) second.joined
-        ∙ sym (append_assoc (concat frames) (concat others) other)
-        ∙ ap (λ (b : List ℕ). b ++ other) (sym (concat-append frames others));
+          ap (λ (b : List ℕ). b ++ more) first.joined
+          ∙ append_assoc (concat frames) rest more
+          ∙ ap (λ (b : List ℕ). concat frames ++ b) second.joined
+          ∙ sym (append_assoc (concat frames) (concat others) other)
+          ∙ ap (λ (b : List ℕ). b ++ other) (sym (concat-append frames others));
       whole = All-append IsWholeFrame frames others first.whole second.whole;
       unfinished = second.unfinished;
     }
@@ -83,14 +83,14 @@ record GoesOn (bytes : List ℕ) (frames others : List (List ℕ)) (other : List
   pub behind : Cuts bytes more other
 
 goes_on : (bytes : List ℕ) (frames others : List (List ℕ)) (other : List ℕ) → concat frames ++ bytes ≡ concat others ++ other → All IsWholeFrame frames → All IsWholeFrame others
-  → IsUnfinished other → GoesOn bytes frames others other
+    → IsUnfinished other → GoesOn bytes frames others other
 goes_on bytes [] others other same whole whole' late = record { more = others; longer = refl; behind = record { joined = same; whole = whole'; unfinished = late } }
 goes_on bytes (x ∷ frames) [] other same whole whole' late =
     absurd (no_front other x (concat frames ++ bytes) late (All-head IsWholeFrame x frames whole) (sym same ∙ append_assoc x (concat frames) bytes))
 goes_on bytes (x ∷ frames) (y ∷ others) other same whole whole' late =
     let first : x ≡ y =
-        same_first x y (concat frames ++ bytes) (concat others ++ other) (All-head IsWholeFrame x frames whole) (All-head IsWholeFrame y others whole')
-        (sym (append_assoc x (concat frames) bytes) ∙ same ∙ append_assoc y (concat others) other) in
+    same_first x y (concat frames ++ bytes) (concat others ++ other) (All-head IsWholeFrame x frames whole) (All-head IsWholeFrame y others whole')
+    (sym (append_assoc x (concat frames) bytes) ∙ same ∙ append_assoc y (concat others) other) in
     let behind = goes_on bytes frames others other (same_behind x y frames others bytes other first same) (All-tail IsWholeFrame x frames whole) (All-tail IsWholeFrame y others whole') late in
     record {
       more = behind.more;
@@ -100,11 +100,11 @@ goes_on bytes (x ∷ frames) (y ∷ others) other same whole whole' late =
 
 -- the frames of a stream are the first of those of a longer one, and the others are cut from what was left
 pub cuts_prefix : {stream : List ℕ} {frames others : List (List ℕ)} {rest other : List ℕ} (more : List ℕ) → Cuts stream frames rest → Cuts (stream ++ more) others other
-  → (behind : List (List ℕ)) × (others ≡ frames ++ behind) × Cuts (rest ++ more) behind other
+    → (behind : List (List ℕ)) × (others ≡ frames ++ behind) × Cuts (rest ++ more) behind other
 cuts_prefix {stream} {frames} {others} {rest} {other} more first whole =
     let on = goes_on (rest ++ more) frames others other
-        (sym (append_assoc (concat frames) rest more) ∙ ap (λ (b : List ℕ). b ++ more) (sym first.joined) ∙ whole.joined)
-        first.whole whole.whole whole.unfinished in
+    (sym (append_assoc (concat frames) rest more) ∙ ap (λ (b : List ℕ). b ++ more) (sym first.joined) ∙ whole.joined)
+    first.whole whole.whole whole.unfinished in
     (on.more, on.longer, on.behind)
 
 -- every stream has a cut; n bounds its bytes
@@ -132,16 +132,16 @@ cut_below : (n : ℕ) (stream : List ℕ) → length stream ≤ n → HasCut str
 cut_below zero stream short = uncut stream (unfinished_untold stream (omega arith))
 cut_below (suc n) stream short =
     elim (cases_lt (length stream) 4) [
-      inl untold ↦ uncut stream (unfinished_untold stream untold)
+      | inl untold ↦ uncut stream (unfinished_untold stream untold)
       | inr told ↦ elim (cases_lt (u32_at stream 0) 40) [
-        inl below ↦ uncut stream (unfinished_bad stream (inl (record { told = told; below = below })))
+        | inl below ↦ uncut stream (unfinished_bad stream (inl (record { told = told; below = below })))
         | inr least ↦ elim (cases_lt 135168 (u32_at stream 0)) [
-          inl over ↦ uncut stream (unfinished_bad stream (inr (record { told = told; over = over })))
+          | inl over ↦ uncut stream (unfinished_bad stream (inr (record { told = told; over = over })))
           | inr most ↦ elim (cases_lt (length stream) (u32_at stream 0)) [
-            inl wants ↦ uncut stream (unfinished_short stream wants)
+            | inl wants ↦ uncut stream (unfinished_short stream wants)
             | inr there ↦
-              first_cut stream (u32_at stream 0) (record { told = told; is = refl; least = least; most = most }) there
-              (cut_below n (drop (u32_at stream 0) stream) (omega (arith, length-drop (u32_at stream 0) stream)))
+                first_cut stream (u32_at stream 0) (record { told = told; is = refl; least = least; most = most }) there
+                (cut_below n (drop (u32_at stream 0) stream) (omega (arith, length-drop (u32_at stream 0) stream)))
           ]
         ]
       ]

@@ -1,8 +1,9 @@
 -- What the steps of the cutter make of its fields.
 use Rattle.std.proofs.Common.{◌≡◌, ◌≤◌, ◌+◌, ℕ, List, [], ◌∷◌, ◌++◌, Result, Ok, Err, length, take, refl, sym, ap, ◌∙◌, subst, inl, inr, arith}
 use Rattle.std.specs.List.{concat}
+use Rattle.std.specs.Prelude.{All}
 use Rattle.std.proofs.lemmas.List.{append-nil, append_assoc, length-append, length-take, take_at}
-use Rattle.std.proofs.lemmas.List.Elements.{All-append, All-push, All-rest}
+use Rattle.std.proofs.lemmas.List.Elements.{All-append, All-head, All-push, All-rest, All-same}
 use Rattle.fuse_head.specs.Head.{IsWholeFrame}
 use Rattle.fuse_frames.specs.Cut.{Cuts, IsBad, IsUnfinished, Keeps}
 use Rattle.fuse_frames.specs.Cutter.{Cutter, Fed, pending}
@@ -17,16 +18,16 @@ use Rattle.fuse_frames.specs.declared.fault.CutFault.TheVariants.{LenBelow40, Le
 pub waits : (old bytes new left : List ℕ) → GrowsTo old bytes new left → (IsWholeFrame new → ⊥) → Waits old bytes new
 waits old bytes new left grows not_whole =
     elim grows.front [
-      inl whole ↦ absurd (not_whole whole)
+      | inl whole ↦ absurd (not_whole whole)
       | inr rest ↦ elim rest [
-        inl partly ↦
-          let same : old ++ bytes ≡ new = grows.joined ∙ ap (λ (b : List ℕ). new ++ b) partly.2 ∙ append-nil new in
-          record { unfinished = rw same partly.1; keeps = inl (rw same partly.0, sym same) }
+        | inl partly ↦
+            let same : old ++ bytes ≡ new = grows.joined ∙ ap (λ (b : List ℕ). new ++ b) partly.2 ∙ append-nil new in
+            record { unfinished = rw same partly.1; keeps = inl (rw same partly.0, sym same) }
         | inr bad ↦
-          record {
-            unfinished = rw grows.joined (unfinished_bad (new ++ left) (bad_append new left bad.0));
-            keeps = inr (rw grows.joined (bad_append new left bad.0), rw grows.joined (sym (take_at new left 4 bad.1)));
-          }
+            record {
+              unfinished = rw grows.joined (unfinished_bad (new ++ left) (bad_append new left bad.0));
+              keeps = inr (rw grows.joined (bad_append new left bad.0), rw grows.joined (sym (take_at new left 4 bad.1)));
+            }
       ]
     ]
 
@@ -47,12 +48,12 @@ says_fed old bytes (Ok u) new takes sound =
 says_fed old bytes (Err NoMemory) new takes says = absurd says
 says_fed old bytes (Err (LenBelow40 at)) new takes says =
     elim takes.keeps [
-      inl kept ↦ absurd (sound_not_bad new.rest (rw kept.1 kept.0) (inl says.0))
+      | inl kept ↦ absurd (sound_not_bad new.rest (rw kept.1 kept.0) (inl says.0))
       | inr kept ↦ record { rest = takes.rest; given = takes.given; cut = takes.cut; bad = below_take takes.rest (rw kept.1 at says.0); kept = kept.1; at = says.1 }
     ]
 says_fed old bytes (Err (LenOver at)) new takes says =
     elim takes.keeps [
-      inl kept ↦ absurd (sound_not_bad new.rest (rw kept.1 kept.0) (inr says.0))
+      | inl kept ↦ absurd (sound_not_bad new.rest (rw kept.1 kept.0) (inr says.0))
       | inr kept ↦ record { rest = takes.rest; given = takes.given; cut = takes.cut; bad = over_take takes.rest (rw kept.1 at says.0); kept = kept.1; at = says.1 }
     ]
 says_fed old bytes (Err (Truncated at)) new takes says = absurd says
@@ -67,21 +68,33 @@ says_stays U cutter bytes NoMemory kept says = absurd says
 says_stays U cutter bytes (LenBelow40 at) kept says =
     let bad = below_append cutter.rest bytes says.0 in
     record {
-      rest = cutter.rest ++ bytes; given = refl; cut = stays_cut cutter bytes kept (inl bad); bad = bad;
-      kept = sym (take_at cutter.rest bytes 4 (kept.four (inl says.0))); at = says.1;
+      rest = cutter.rest ++ bytes;
+      given = refl;
+      cut = stays_cut cutter bytes kept (inl bad);
+      bad = bad;
+      kept = sym (take_at cutter.rest bytes 4 (kept.four (inl says.0)));
+      at = says.1;
     }
 says_stays U cutter bytes (LenOver at) kept says =
     let bad = over_append cutter.rest bytes says.0 in
     record {
-      rest = cutter.rest ++ bytes; given = refl; cut = stays_cut cutter bytes kept (inr bad); bad = bad;
-      kept = sym (take_at cutter.rest bytes 4 (kept.four (inr says.0))); at = says.1;
+      rest = cutter.rest ++ bytes;
+      given = refl;
+      cut = stays_cut cutter bytes kept (inr bad);
+      bad = bad;
+      kept = sym (take_at cutter.rest bytes 4 (kept.four (inr says.0)));
+      at = says.1;
     }
 says_stays U cutter bytes (Truncated at) kept says = absurd says
 
+-- the frame that has waited longest is whole
+pub first_whole : (held left : List (List ℕ)) (frame : List ℕ) → All IsWholeFrame held → held ≡ frame ∷ left → IsWholeFrame frame
+first_whole held left frame whole first = All-head IsWholeFrame frame left (All-same IsWholeFrame (frame ∷ left) held (sym first) whole)
+
 -- the frame that has waited longest is given
 pub gives_kept : (given place_now : ℕ) (held left : List (List ℕ)) (rest frame : List ℕ) → IsKept (record { given = given; held = held; rest = rest })
-  → place_now ≡ given + length (concat held) → held ≡ frame ∷ left
-  → IsKept (record { given = given + length frame; held = left; rest = rest }) × (place_now ≡ given + length frame + length (concat left))
+    → place_now ≡ given + length (concat held) → held ≡ frame ∷ left
+    → IsKept (record { given = given + length frame; held = left; rest = rest }) × (place_now ≡ given + length frame + length (concat left))
 gives_kept given place_now held left rest frame kept counted first =
     let size : length (concat held) ≡ length frame + length (concat left) = ap (λ (h : List (List ℕ)). length (concat h)) first ∙ length-append frame (concat left) in
     (record { whole = All-rest IsWholeFrame frame left held first kept.whole; unfinished = kept.unfinished; four = kept.four }, omega (arith, counted, size))
@@ -93,16 +106,16 @@ concat_all held frame frames =
 
 -- the frame that a rest began has become whole, and what stands behind it was cut
 pub ends_takes : (old new : Cutter) (bytes frame : List ℕ) (frames : List (List ℕ)) (kept : List ℕ) (size : ℕ) → Ends old.rest bytes frame frames kept size → IsKept old
-  → new.given ≡ old.given → new.held ≡ old.held ++ frame ∷ [] ++ frames → new.rest ≡ kept → TakesIn old bytes new
+    → new.given ≡ old.given → new.held ≡ old.held ++ frame ∷ [] ++ frames → new.rest ≡ kept → TakesIn old bytes new
 ends_takes old new bytes frame frames kept size ends is_kept given held rest =
     let behind = ends.behind in
     let regrouped : concat old.held ++ (frame ++ (concat frames ++ behind.rest)) ≡ concat old.held ++ (frame ++ concat frames) ++ behind.rest =
-        simp append_assoc in
+    simp append_assoc in
     let joined : pending old ++ bytes ≡ concat (old.held ++ frame ∷ [] ++ frames) ++ behind.rest =
-        append_assoc (concat old.held) old.rest bytes
-        ∙ ap (λ (b : List ℕ). concat old.held ++ b) (ends.joined ∙ ap (λ (b : List ℕ). frame ++ b) behind.cut.joined)
-        ∙ regrouped
-        ∙ ap (λ (b : List ℕ). b ++ behind.rest) (sym (concat_all old.held frame frames)) in
+    append_assoc (concat old.held) old.rest bytes
+    ∙ ap (λ (b : List ℕ). concat old.held ++ b) (ends.joined ∙ ap (λ (b : List ℕ). frame ++ b) behind.cut.joined)
+    ∙ regrouped
+    ∙ ap (λ (b : List ℕ). b ++ behind.rest) (sym (concat_all old.held frame frames)) in
     record {
       rest = behind.rest;
       given = given;
@@ -125,21 +138,21 @@ takes_kept old bytes new takes =
 
 -- the place of the rest moves on by the bytes of the new frames
 pub ends_place : (given size place_now : ℕ) (frame : List ℕ) (old frames new : List (List ℕ)) → size ≡ length (concat frames) → place_now ≡ given + length (concat old)
-  → new ≡ old ++ frame ∷ [] ++ frames → place_now + (length frame + size) ≡ given + length (concat new)
+    → new ≡ old ++ frame ∷ [] ++ frames → place_now + (length frame + size) ≡ given + length (concat new)
 ends_place given size place_now frame old frames new sized counted held =
     let all : length (concat new) ≡ length (concat old) + (length frame + length (concat frames)) =
-        ap (λ (h : List (List ℕ)). length (concat h)) held ∙ ap length (concat_all old frame frames)
-        ∙ length-append (concat old) (frame ++ concat frames)
-        ∙ ap (λ (n : ℕ). length (concat old) + n) (length-append frame (concat frames)) in
+    ap (λ (h : List (List ℕ)). length (concat h)) held ∙ ap length (concat_all old frame frames)
+    ∙ length-append (concat old) (frame ++ concat frames)
+    ∙ ap (λ (n : ℕ). length (concat old) + n) (length-append frame (concat frames)) in
     omega (arith, counted, all, sized)
 
 -- the new frames have no more bytes than stood behind the frames held and were fed
 pub ends_fits : (rest bytes frame : List ℕ) (frames : List (List ℕ)) (kept : List ℕ) (size : ℕ) → Ends rest bytes frame frames kept size
-  → length frame + size ≤ length rest + length bytes
+    → length frame + size ≤ length rest + length bytes
 ends_fits rest bytes frame frames kept size ends =
     let behind = ends.behind in
     let whole : length rest + length bytes ≡ length frame + length ends.left =
-        sym (length-append rest bytes) ∙ ap length ends.joined ∙ length-append frame ends.left in
+    sym (length-append rest bytes) ∙ ap length ends.joined ∙ length-append frame ends.left in
     let left : length ends.left ≡ length (concat frames) + length behind.rest =
-        ap length behind.cut.joined ∙ length-append (concat frames) behind.rest in
+    ap length behind.cut.joined ∙ length-append (concat frames) behind.rest in
     omega (arith, whole, left, behind.sized)

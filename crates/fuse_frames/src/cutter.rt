@@ -1,6 +1,6 @@
-ghost use Rattle.std.specs.Prelude.{◌≡◌, ◌≤◌, ◌+◌, ◌^◌, length};
+ghost use Rattle.std.specs.Prelude.{◌≡◌, ◌≤◌, ◌+◌, ◌^◌, List, [], length, ℕ};
 ghost use Rattle.fuse_frames.specs.Cut.{IsSound};
-ghost use Rattle.fuse_frames.specs.Cutter.{Fed, Finishes, Gives, fed, fresh};
+ghost use Rattle.fuse_frames.specs.Cutter.{Fed, Finishes, Gives, HasRead, fed, fresh, gave_after, stream_after};
 ghost use Rattle.fuse_frames.specs.Kept.{IsKept, Says, TakenIn};
 
 use crate::fault::CutFault;
@@ -37,7 +37,8 @@ impl Model for FrameCutter {
 impl FrameCutter {
     /// A cutter that has been fed nothing. It asks for no memory yet.
     pub fn new(alloc: Global) -> FrameCutter
-        ensures { result ≡ fresh }
+        ensures answer { result ≡ fresh }
+        ensures frames { HasRead [] [] result }
     {
         FrameCutter {
             held: VecDeque::new(alloc),
@@ -54,7 +55,11 @@ impl FrameCutter {
     /// `NoMemory` leaves all as it was. `Truncated` never comes here.
     pub fn feed(&mut self, bytes: &[u8]) -> Result<(), CutFault>
         requires { fed self.old + length bytes.now ≤ 2 ^ 62 }
-        ensures { Fed self.old bytes.now result self.new }
+        ensures answer { Fed self.old bytes.now result self.new }
+        ensures bytes { fed self.new ≤ fed self.old + length bytes.now }
+
+        // However the stream was fed, what was given and what is held are its frames.
+        ensures frames { (stream : List ℕ) (gave : List (List ℕ)) → HasRead stream gave self.old → HasRead (stream_after stream bytes.now result) gave self.new }
     {
         if let Err(fault) = self.sound() {
             return Err(fault);
@@ -67,7 +72,11 @@ impl FrameCutter {
 
     /// The frame that has waited longest; none where no whole frame waits.
     pub fn next(&mut self) -> Option<Bytes>
-        ensures { Gives self.old result self.new }
+        ensures answer { Gives self.old result self.new }
+        ensures bytes { fed self.new ≡ fed self.old }
+
+        // What was given, with this frame, and what is held are still the frames of the stream.
+        ensures frames { (stream : List ℕ) (gave : List (List ℕ)) → HasRead stream gave self.old → HasRead stream (gave_after gave result) self.new }
     {
         let Some(frame) = self.held.pop_front() else {
             return None;

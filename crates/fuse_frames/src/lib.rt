@@ -5,6 +5,8 @@ mod cutter;
 mod fault;
 mod front;
 mod pieces;
+#[cfg(test)]
+mod tests;
 
 pub use cutter::FrameCutter;
 pub use fault::CutFault;

@@ -21,11 +21,10 @@ pub invariant_of-self-in-Ok-Some : goal.invariant_of-self-in-Ok-Some
 invariant_of-self-in-Ok-Some c =
     let ends = rw c.in-Ok-Some.field-0-is at c.in-Ok-Some.ensures.ends in
     let held : c.hold.new.held.items ≡ c.self.inside.held.items ++ c.advance.new.rest.items ∷ [] ++ c.in-Ok-Some.pieces.frames.items =
-        rw (c.hold.ensures, c.replace-frame.ensures.value, c.in-Ok-Some.ensures.kept) refl in
+    rw (c.hold.ensures, c.replace-frame.ensures.value, c.in-Ok-Some.ensures.kept) refl in
     let rest : c.replace-frame.new.dest.items ≡ c.in-Ok-Some.pieces.rest.items = ap (λ v. v.items) c.replace-frame.ensures.after in
     let size : c.len.result ≡ length c.advance.new.rest.items =
-        c.len.ensures ∙ c.replace-frame.result.ok.0 ∙ ap (λ v. length v.items) c.replace-frame.ensures.value in
-    (
+    c.len.ensures ∙ c.replace-frame.result.ok.0 ∙ ap (λ v. length v.items) c.replace-frame.ensures.value in (
       takes_kept _ _ _ (ends_takes _ _ _ _ _ _ _ ends c.self.invariant.0 refl held rest),
       rw size (ends_place _ _ _ _ _ _ _ ends.behind.sized c.self.invariant.1 held),
     )
@@ -34,6 +33,6 @@ pub returns-in-Ok-Some : goal.returns-in-Ok-Some
 returns-in-Ok-Some c =
     let ends = rw c.in-Ok-Some.field-0-is at c.in-Ok-Some.ensures.ends in
     let held : c.hold.new.held.items ≡ c.self.inside.held.items ++ c.advance.new.rest.items ∷ [] ++ c.in-Ok-Some.pieces.frames.items =
-        rw (c.hold.ensures, c.replace-frame.ensures.value, c.in-Ok-Some.ensures.kept) refl in
+    rw (c.hold.ensures, c.replace-frame.ensures.value, c.in-Ok-Some.ensures.kept) refl in
     let rest : c.replace-frame.new.dest.items ≡ c.in-Ok-Some.pieces.rest.items = ap (λ v. v.items) c.replace-frame.ensures.after in
     rw (← c.self.view_is) (ends_takes _ _ _ _ _ _ _ ends c.self.invariant.0 refl held rest)
