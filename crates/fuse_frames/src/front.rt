@@ -10,6 +10,9 @@ use io_ports::{Bytes, NoMemory};
 use std::alloc::Global;
 use std::collections::VecDeque;
 
+/// The fewest bytes of a request frame: those of its head.
+const SHORTEST_FRAME: u32 = 40;
+
 /// The bad len at the front of `rest`, which begins at `place` of the stream, if its four bytes are there.
 pub(crate) fn bad_len(rest: &[u8], place: u64) -> Option<CutFault>
     ensures { SaysBadLen rest.now place result }
@@ -18,7 +21,7 @@ pub(crate) fn bad_len(rest: &[u8], place: u64) -> Option<CutFault>
         return None;
     }
     let len = u32_at(rest, 0);
-    if len < 40 {
+    if len < SHORTEST_FRAME {
         return Some(CutFault::LenBelow40(place));
     }
     if len > LONGEST_FRAME {
@@ -35,13 +38,10 @@ pub(crate) fn told_len(rest: &[u8]) -> Option<usize>
         return None;
     }
     let len = u32_at(rest, 0);
-    if len < 40 {
-        return None;
+    match len {
+        SHORTEST_FRAME..=LONGEST_FRAME => Some(len as usize),
+        _ => None,
     }
-    if len > LONGEST_FRAME {
-        return None;
-    }
-    Some(len as usize)
 }
 
 /// The whole frame at the front of `bytes`, and what stands behind it.
