@@ -6,10 +6,10 @@ use Rattle.std.specs.Prelude.{All}
 use Rattle.std.proofs.lemmas.List.{append-nil, append_assoc, drop_at, length-append, length-take, length-take-le, take-append-le, take_at}
 use Rattle.std.proofs.lemmas.List.Elements.{All-append, All-drop, All-nil, All-same, All-take}
 use Rattle.fuse_head.specs.Head.{IsWholeFrame}
-use Rattle.fuse_frames.specs.Cut.{Cuts, IsBad, Keeps}
-use Rattle.fuse_frames.specs.Cutter.{Cutter, Fed, Feeds, fed, fresh, gave_after, Gives, GivesFrame, HasRead, pending, place, StopsAt, stream_after}
+use Rattle.fuse_frames.specs.Cut.{Cuts, IsBad, IsBelow40, IsOver, Keeps}
+use Rattle.fuse_frames.specs.Cutter.{Cutter, Fed, Feeds, fed, fresh, gave_after, Gives, GivesFrame, HasRead, HasStopped, pending, place, StopsAt, stream_after}
 use Rattle.fuse_frames.proofs.CutLemmas.{concat-append, cuts_unique}
-use Rattle.fuse_frames.proofs.FrontLemmas.{bad_append, bad_told, concat-push, sound_not_bad, take_bad, unfinished_bad, unfinished_untold}
+use Rattle.fuse_frames.proofs.FrontLemmas.{bad_append, bad_told, concat-push, len-take, sound_not_bad, take_bad, unfinished_bad, unfinished_untold}
 use Rattle.fuse_frames.specs.declared.fault.CutFault.{CutFault}
 use Rattle.fuse_frames.specs.declared.fault.CutFault.TheVariants.{LenBelow40, LenOver, NoMemory, Truncated}
 
@@ -28,6 +28,17 @@ stops_append {old = old} {mid = mid} {new = new} {front = front} {back = back} f
     ap (λ (b : List ℕ). b ++ back) (sym first.cut.joined) ∙ append_assoc (pending old) front back in
     let P : List ℕ → Type 0 = λ b. Cuts b new.held second.rest in
     record { rest = second.rest; given = second.given ∙ first.given; cut = subst P joined second.cut; bad = second.bad; kept = second.kept; at = second.at }
+
+-- a cutter that comes upon a bad len has stopped there
+pub stopped_below : {old new : Cutter} {bytes : List ℕ} {told : ℕ} → StopsAt IsBelow40 old bytes told new → HasStopped (LenBelow40 told) new
+stopped_below {old} {new} {bytes} {told} stops =
+    let four : 4 ≤ length (take 4 stops.rest) = omega (arith, stops.bad.told, length-take 4 stops.rest) in
+    (rw stops.kept (record { told = four; below = rw (len-take 4 stops.rest four) stops.bad.below }), stops.at)
+
+pub stopped_over : {old new : Cutter} {bytes : List ℕ} {told : ℕ} → StopsAt IsOver old bytes told new → HasStopped (LenOver told) new
+stopped_over {old} {new} {bytes} {told} stops =
+    let four : 4 ≤ length (take 4 stops.rest) = omega (arith, stops.bad.told, length-take 4 stops.rest) in
+    (rw stops.kept (record { told = four; over = rw (len-take 4 stops.rest four) stops.bad.over }), stops.at)
 
 -- a cutter is its parts
 same_cutter : (a b : Cutter) → a.given ≡ b.given → a.held ≡ b.held → a.rest ≡ b.rest → a ≡ b

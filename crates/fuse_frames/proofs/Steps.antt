@@ -5,8 +5,8 @@ use Rattle.std.specs.Prelude.{All}
 use Rattle.std.proofs.lemmas.List.{append-nil, append_assoc, length-append, length-take, take_at}
 use Rattle.std.proofs.lemmas.List.Elements.{All-append, All-head, All-push, All-rest, All-same}
 use Rattle.fuse_head.specs.Head.{IsWholeFrame}
-use Rattle.fuse_frames.specs.Cut.{Cuts, IsBad, IsUnfinished, Keeps}
-use Rattle.fuse_frames.specs.Cutter.{Cutter, Fed, pending}
+use Rattle.fuse_frames.specs.Cut.{Cuts, IsBad, IsSound, IsUnfinished, Keeps}
+use Rattle.fuse_frames.specs.Cutter.{Cutter, Fed, HasStopped, pending}
 use Rattle.fuse_frames.specs.Front.{GrowsTo}
 use Rattle.fuse_frames.specs.Kept.{Ends, IsKept, Says, TakesIn, Waits}
 use Rattle.fuse_frames.proofs.CutLemmas.{concat-append}
@@ -156,3 +156,23 @@ ends_fits rest bytes frame frames kept size ends =
     let left : length ends.left ≡ length (concat frames) + length behind.rest =
     ap length behind.cut.joined ∙ length-append (concat frames) behind.rest in
     omega (arith, whole, left, behind.sized)
+
+-- a cutter whose len isn't bad has come upon none
+pub sound_not_stopped : (cutter : Cutter) (fault : CutFault) → IsSound cutter.rest → HasStopped fault cutter → ⊥
+sound_not_stopped cutter NoMemory sound stopped = stopped
+sound_not_stopped cutter (LenBelow40 at) sound stopped = sound_not_bad cutter.rest sound (inl stopped.0)
+sound_not_stopped cutter (LenOver at) sound stopped = sound_not_bad cutter.rest sound (inr stopped.0)
+sound_not_stopped cutter (Truncated at) sound stopped = stopped
+
+-- a cutter has come upon one bad len
+pub same_stop : (cutter : Cutter) (fault other : CutFault) → HasStopped fault cutter → HasStopped other cutter → fault ≡ other
+same_stop cutter NoMemory other a b = absurd a
+same_stop cutter (LenBelow40 at) NoMemory a b = absurd b
+same_stop cutter (LenBelow40 at) (LenBelow40 there) a b = ap (λ (n : ℕ). LenBelow40 n) (a.1 ∙ sym b.1)
+same_stop cutter (LenBelow40 at) (LenOver there) a b = absurd (omega (arith, a.0.below, b.0.over))
+same_stop cutter (LenBelow40 at) (Truncated there) a b = absurd b
+same_stop cutter (LenOver at) NoMemory a b = absurd b
+same_stop cutter (LenOver at) (LenBelow40 there) a b = absurd (omega (arith, a.0.over, b.0.below))
+same_stop cutter (LenOver at) (LenOver there) a b = ap (λ (n : ℕ). LenOver n) (a.1 ∙ sym b.1)
+same_stop cutter (LenOver at) (Truncated there) a b = absurd b
+same_stop cutter (Truncated at) other a b = absurd a

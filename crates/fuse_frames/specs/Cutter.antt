@@ -65,6 +65,13 @@ abbrev pub Gives : Cutter → Option (List ℕ) → Cutter → Type 0
 Gives old None new = (old.held ≡ []) × (new ≡ old)
 Gives old (Some frame) new = GivesFrame old frame new
 
+-- the cutter has come upon this bad len, at this place
+abbrev pub HasStopped : CutFault → Cutter → Type 0
+HasStopped NoMemory cutter = ⊥
+HasStopped (LenBelow40 at) cutter = IsBelow40 cutter.rest × (at ≡ place cutter)
+HasStopped (LenOver at) cutter = IsOver cutter.rest × (at ≡ place cutter)
+HasStopped (Truncated at) cutter = ⊥
+
 -- what `finish` answers
 abbrev pub Finishes : {U : Type 0} → Cutter → Result U CutFault → Type 0
 Finishes cutter (Ok _) = cutter.rest ≡ []

@@ -2,10 +2,9 @@
 use Rattle.std.specs.Prelude.{◌≡◌, ◌++◌, ℕ, List, All, Result, Ok, Err, length}
 use Rattle.std.specs.List.{concat}
 use Rattle.fuse_head.specs.Head.{IsWholeFrame}
-use Rattle.fuse_frames.specs.Cut.{Cuts, IsBad, IsBelow40, IsOver, IsSound, IsUnfinished, Keeps}
-use Rattle.fuse_frames.specs.Cutter.{Cutter, pending, place}
+use Rattle.fuse_frames.specs.Cut.{Cuts, IsBad, IsSound, IsUnfinished, Keeps}
+use Rattle.fuse_frames.specs.Cutter.{Cutter, HasStopped, pending}
 use Rattle.fuse_frames.specs.declared.fault.CutFault.{CutFault}
-use Rattle.fuse_frames.specs.declared.fault.CutFault.TheVariants.{LenBelow40, LenOver, NoMemory, Truncated}
 
 -- the frames held are whole and the rest begins with none; of a bad len four bytes are kept
 pub record IsKept (cutter : Cutter) : Type 0 where
@@ -47,7 +46,4 @@ TakenIn old bytes (Err _) new = new ≡ old
 -- the bad len that a cutter has come upon, or none
 abbrev pub Says : {U : Type 0} → Cutter → Result U CutFault → Type 0
 Says cutter (Ok _) = IsSound cutter.rest
-Says cutter (Err NoMemory) = ⊥
-Says cutter (Err (LenBelow40 at)) = IsBelow40 cutter.rest × (at ≡ place cutter)
-Says cutter (Err (LenOver at)) = IsOver cutter.rest × (at ≡ place cutter)
-Says cutter (Err (Truncated at)) = ⊥
+Says cutter (Err fault) = HasStopped fault cutter

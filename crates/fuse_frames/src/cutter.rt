@@ -1,7 +1,8 @@
 ghost use Rattle.std.specs.Prelude.{◌≡◌, ◌≤◌, ◌+◌, ◌^◌, List, [], length, ℕ};
 ghost use Rattle.fuse_frames.specs.Cut.{IsSound};
-ghost use Rattle.fuse_frames.specs.Cutter.{Fed, Finishes, Gives, HasRead, fed, fresh, gave_after, stream_after};
+ghost use Rattle.fuse_frames.specs.Cutter.{Fed, Finishes, Gives, HasRead, HasStopped, fed, fresh, gave_after, stream_after};
 ghost use Rattle.fuse_frames.specs.Kept.{IsKept, Says, TakenIn};
+ghost use Rattle.fuse_frames.specs.declared.fault.CutFault.{CutFault};
 
 use crate::fault::CutFault;
 use crate::front::bad_len;
@@ -57,6 +58,7 @@ impl FrameCutter {
         requires { fed self.old + length bytes.now ≤ 2 ^ 62 }
         ensures answer { Fed self.old bytes.now result self.new }
         ensures bytes { fed self.new ≤ fed self.old + length bytes.now }
+        ensures stays { (fault : CutFault) → HasStopped fault self.old → (result ≡ Err fault) × (self.new ≡ self.old) }
 
         // However the stream was fed, what was given and what is held are its frames.
         ensures frames { (stream : List ℕ) (gave : List (List ℕ)) → HasRead stream gave self.old → HasRead (stream_after stream bytes.now result) gave self.new }
@@ -74,6 +76,7 @@ impl FrameCutter {
     pub fn next(&mut self) -> Option<Bytes>
         ensures answer { Gives self.old result self.new }
         ensures bytes { fed self.new ≡ fed self.old }
+        ensures stays { (fault : CutFault) → HasStopped fault self.old → HasStopped fault self.new }
 
         // What was given, with this frame, and what is held are still the frames of the stream.
         ensures frames { (stream : List ℕ) (gave : List (List ℕ)) → HasRead stream gave self.old → HasRead stream (gave_after gave result) self.new }
@@ -88,7 +91,8 @@ impl FrameCutter {
     /// Ends the stream. A bad len is answered as [`FrameCutter::feed`] answers it; else `Truncated` comes exactly where
     /// bytes stand behind the last whole frame. It asks for no memory, and frames that still wait are let go.
     pub fn finish(self) -> Result<(), CutFault>
-        ensures { Finishes self result }
+        ensures answer { Finishes self result }
+        ensures stays { (fault : CutFault) → HasStopped fault self → result ≡ Err fault }
     {
         if let Err(fault) = self.sound() {
             return Err(fault);
