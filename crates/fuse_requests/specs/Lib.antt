@@ -1,0 +1,7 @@
+pub mod Parts
+pub mod Layout
+pub mod Naming
+pub mod Nodes
+pub mod Mounts
+pub mod Grammar
+pub mod Text

@@ -1,0 +1,17 @@
+//! Requests of the FUSE wire as values, for whoever reads or writes their frames.
+#![tactic(auto)]
+
+mod fault;
+mod mounts;
+mod naming;
+mod nodes;
+mod opcode;
+mod parts;
+mod reading;
+mod request;
+mod writing;
+
+pub use fault::BodyFault;
+pub use reading::read_request;
+pub use request::{Forgotten, Request};
+pub use writing::write_request;

@@ -1,0 +1,65 @@
+ghost use Rattle.fuse_requests.specs.Mounts as layouts;
+ghost use Rattle.fuse_requests.specs.Layout.{read_body};
+ghost use Rattle.fuse_requests.specs.Parts.{Gives};
+ghost use Rattle.fuse_requests.specs.Grammar.{plain};
+
+use crate::fault::BodyFault;
+use crate::parts::{after_fixed, ended, last_pairs};
+use crate::request::Request;
+use fuse_head::{u32_at, u64_at};
+use std::alloc::Global;
+
+pub(crate) fn forget(node: u64, body: &[u8]) -> Result<Request, BodyFault>
+    ensures { Gives plain result (read_body (layouts.forget node) body.now) }
+{
+    let rest = after_fixed(body, 8)?;
+    ended(rest)?;
+    Ok(Request::Forget {
+        node,
+        count: u64_at(body, 0),
+    })
+}
+
+pub(crate) fn statfs(body: &[u8]) -> Result<Request, BodyFault>
+    ensures { Gives plain result (read_body (layouts.statfs) body.now) }
+{
+    let rest = after_fixed(body, 0)?;
+    ended(rest)?;
+    Ok(Request::Statfs)
+}
+
+pub(crate) fn init(body: &[u8]) -> Result<Request, BodyFault>
+    ensures { Gives plain result (read_body (layouts.init) body.now) }
+{
+    let _later = after_fixed(body, 16)?;
+    Ok(Request::Init {
+        major: u32_at(body, 0),
+        minor: u32_at(body, 4),
+        readahead: u32_at(body, 8),
+        flags: u32_at(body, 12),
+    })
+}
+
+pub(crate) fn interrupt(body: &[u8]) -> Result<Request, BodyFault>
+    ensures { Gives plain result (read_body (layouts.interrupt) body.now) }
+{
+    let rest = after_fixed(body, 8)?;
+    ended(rest)?;
+    Ok(Request::Interrupt)
+}
+
+pub(crate) fn destroy(body: &[u8]) -> Result<Request, BodyFault>
+    ensures { Gives plain result (read_body (layouts.destroy) body.now) }
+{
+    let rest = after_fixed(body, 0)?;
+    ended(rest)?;
+    Ok(Request::Destroy)
+}
+
+pub(crate) fn batch_forget(alloc: Global, body: &[u8]) -> Result<Request, BodyFault>
+    ensures { Gives plain result (read_body (layouts.batch_forget) body.now) }
+{
+    let rest = after_fixed(body, 8)?;
+    let pairs = last_pairs(alloc, rest, u32_at(body, 0) as usize)?;
+    Ok(Request::BatchForget { pairs })
+}

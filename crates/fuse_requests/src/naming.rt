@@ -1,0 +1,97 @@
+ghost use Rattle.fuse_requests.specs.Naming as layouts;
+ghost use Rattle.fuse_requests.specs.Layout.{read_body};
+ghost use Rattle.fuse_requests.specs.Parts.{Gives};
+ghost use Rattle.fuse_requests.specs.Grammar.{plain};
+
+use crate::fault::BodyFault;
+use crate::parts::{after_fixed, last_name, last_two_names};
+use crate::request::Request;
+use fuse_head::{u32_at, u64_at};
+use std::alloc::Global;
+
+pub(crate) fn lookup(alloc: Global, node: u64, body: &[u8]) -> Result<Request, BodyFault>
+    ensures { Gives plain result (read_body (layouts.lookup node) body.now) }
+{
+    let rest = after_fixed(body, 0)?;
+    let name = last_name(alloc, rest)?;
+    Ok(Request::Lookup { node, name })
+}
+
+pub(crate) fn symlink(alloc: Global, node: u64, body: &[u8]) -> Result<Request, BodyFault>
+    ensures { Gives plain result (read_body (layouts.symlink node) body.now) }
+{
+    let rest = after_fixed(body, 0)?;
+    let (name, target) = last_two_names(alloc, rest)?;
+    Ok(Request::Symlink { node, name, target })
+}
+
+pub(crate) fn mknod(alloc: Global, node: u64, body: &[u8]) -> Result<Request, BodyFault>
+    ensures { Gives plain result (read_body (layouts.mknod node) body.now) }
+{
+    let rest = after_fixed(body, 16)?;
+    let mode = u32_at(body, 0);
+    let name = last_name(alloc, rest)?;
+    Ok(Request::Mknod { node, mode, name })
+}
+
+pub(crate) fn mkdir(alloc: Global, node: u64, body: &[u8]) -> Result<Request, BodyFault>
+    ensures { Gives plain result (read_body (layouts.mkdir node) body.now) }
+{
+    let rest = after_fixed(body, 8)?;
+    let name = last_name(alloc, rest)?;
+    Ok(Request::Mkdir { node, name })
+}
+
+pub(crate) fn unlink(alloc: Global, node: u64, body: &[u8]) -> Result<Request, BodyFault>
+    ensures { Gives plain result (read_body (layouts.unlink node) body.now) }
+{
+    let rest = after_fixed(body, 0)?;
+    let name = last_name(alloc, rest)?;
+    Ok(Request::Unlink { node, name })
+}
+
+pub(crate) fn rmdir(alloc: Global, node: u64, body: &[u8]) -> Result<Request, BodyFault>
+    ensures { Gives plain result (read_body (layouts.rmdir node) body.now) }
+{
+    let rest = after_fixed(body, 0)?;
+    let name = last_name(alloc, rest)?;
+    Ok(Request::Rmdir { node, name })
+}
+
+pub(crate) fn rename(alloc: Global, node: u64, body: &[u8]) -> Result<Request, BodyFault>
+    ensures { Gives plain result (read_body (layouts.rename node) body.now) }
+{
+    let rest = after_fixed(body, 8)?;
+    let newdir = u64_at(body, 0);
+    let (name, newname) = last_two_names(alloc, rest)?;
+    Ok(Request::Rename {
+        node,
+        newdir,
+        name,
+        newname,
+    })
+}
+
+pub(crate) fn create(alloc: Global, node: u64, body: &[u8]) -> Result<Request, BodyFault>
+    ensures { Gives plain result (read_body (layouts.create node) body.now) }
+{
+    let rest = after_fixed(body, 16)?;
+    let name = last_name(alloc, rest)?;
+    Ok(Request::Create { node, name })
+}
+
+pub(crate) fn rename2(alloc: Global, node: u64, body: &[u8]) -> Result<Request, BodyFault>
+    ensures { Gives plain result (read_body (layouts.rename2 node) body.now) }
+{
+    let rest = after_fixed(body, 16)?;
+    let newdir = u64_at(body, 0);
+    let flags = u32_at(body, 8);
+    let (name, newname) = last_two_names(alloc, rest)?;
+    Ok(Request::Rename2 {
+        node,
+        newdir,
+        flags,
+        name,
+        newname,
+    })
+}
