@@ -1,1 +1,10 @@
 pub mod PairLemmas
+pub mod PairTexts
+pub mod FieldTexts
+pub mod TailTexts
+pub mod BodyTexts
+pub mod FrameTexts
+pub mod NamingTexts
+pub mod NodeTexts
+pub mod MountTexts
+pub mod RequestTexts

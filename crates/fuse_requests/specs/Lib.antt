@@ -5,3 +5,4 @@ pub mod Nodes
 pub mod Mounts
 pub mod Grammar
 pub mod Text
+pub mod Fields

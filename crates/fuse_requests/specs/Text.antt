@@ -1,7 +1,7 @@
 -- The text of a request: the frame that asks it. After Linux fuse.h 7.31; fields that a request hasn't, and
 -- padding, are zero.
-use Rattle.std.specs.Prelude.{◌≡◌, ◌+◌, ◌≤◌, ◌++◌, ◌∷◌, [], ℕ, List, None, length, false}
-use Rattle.std.specs.List.{flat_map, list_any}
+use Rattle.std.specs.Prelude.{◌≡◌, ◌+◌, ◌<◌, ◌≤◌, ◌^◌, ◌++◌, ◌∷◌, [], ℕ, List, None, length, false}
+use Rattle.std.specs.List.{flat_map, list_any, AllByRecursion}
 use Rattle.fuse_head.specs.Head.{in_head_text}
 use Rattle.fuse_head.specs.Little.{u64_bytes}
 use Rattle.fuse_head.specs.declared.in_head.InHead.{InHead}
@@ -107,6 +107,9 @@ name_text name = name ++ 0 ∷ []
 abbrev pub pair_text : Forgotten → List ℕ
 pair_text pair = u64_bytes pair.node ++ u64_bytes pair.count
 
+abbrev pub pairs_text : List Forgotten → List ℕ
+pairs_text pairs = flat_map pair_text pairs
+
 -- what stands behind the fixed part
 abbrev pub tail_of : Request → List ℕ
 tail_of (Lookup node name) = name_text name
@@ -118,7 +121,7 @@ tail_of (Rmdir node name) = name_text name
 tail_of (Rename node newdir name newname) = name_text name ++ name_text newname
 tail_of (Write node fh first content) = content
 tail_of (Create node name) = name_text name
-tail_of (BatchForget pairs) = flat_map pair_text pairs.items
+tail_of (BatchForget pairs) = pairs_text pairs.items
 tail_of (Rename2 node newdir flags name newname) = name_text name ++ name_text newname
 tail_of _ = []
 
@@ -126,18 +129,21 @@ tail_of _ = []
 abbrev pub body_text : Request → List ℕ
 body_text request = fields_text (fixed_of request) ++ tail_of request
 
--- the text of a request as a frame, with this unique: no user, group or process is named
+-- the head of a frame with this length and this unique: no user, group or process is named
+abbrev pub head_of : ℕ → ℕ → Request → InHead
+head_of len unique request = record {
+  len = len;
+  opcode = opcode_of request;
+  unique = unique;
+  node = node_of request;
+  uid = 0;
+  gid = 0;
+  pid = 0;
+}
+
+-- the text of a request as a frame, with this unique
 unfoldable pub request_text : ℕ → Request → List ℕ
-request_text unique request =
-    in_head_text (record {
-      len = 40 + length (body_text request);
-      opcode = opcode_of request;
-      unique = unique;
-      node = node_of request;
-      uid = 0;
-      gid = 0;
-      pid = 0;
-    }) ++ body_text request
+request_text unique request = in_head_text (head_of (40 + length (body_text request)) unique request) ++ body_text request
 
 -- a name holds no zero byte
 abbrev pub IsName : List ℕ → Type 0
@@ -161,3 +167,38 @@ HasNames _ = Unit {0}
 pub record IsWritable (request : Request) : Type 0 where
   pub names : HasNames request
   pub fits : 40 + length (body_text request) ≤ 135168
+
+-- a pair's numbers lie in their types
+abbrev pub PairFits : Forgotten → Type 0
+PairFits pair = (pair.node < 2 ^ 64) × (pair.count < 2 ^ 64)
+
+-- the numbers that a request has beside its node and its pairs lie in their types
+abbrev pub FieldsFit : Request → Type 0
+FieldsFit (Forget node count) = count < 2 ^ 64
+FieldsFit (Setattr node valid size mtime nanos) = (valid < 2 ^ 32) × (size < 2 ^ 64) × (mtime < 2 ^ 64) × (nanos < 2 ^ 32)
+FieldsFit (Mknod node mode name) = mode < 2 ^ 32
+FieldsFit (Rename node newdir name newname) = newdir < 2 ^ 64
+FieldsFit (Opening node flags) = flags < 2 ^ 32
+FieldsFit (Read node fh first size) = (fh < 2 ^ 64) × (first < 2 ^ 64) × (size < 2 ^ 32)
+FieldsFit (Write node fh first content) = (fh < 2 ^ 64) × (first < 2 ^ 64)
+FieldsFit (Release node fh) = fh < 2 ^ 64
+FieldsFit (Fsync node fh) = fh < 2 ^ 64
+FieldsFit (Flush node fh) = fh < 2 ^ 64
+FieldsFit (Init major minor readahead flags) = (major < 2 ^ 32) × (minor < 2 ^ 32) × (readahead < 2 ^ 32) × (flags < 2 ^ 32)
+FieldsFit (Readdir node fh first size) = (fh < 2 ^ 64) × (first < 2 ^ 64) × (size < 2 ^ 32)
+FieldsFit (Releasedir node fh) = fh < 2 ^ 64
+FieldsFit (Fsyncdir node fh) = fh < 2 ^ 64
+FieldsFit (Rename2 node newdir flags name newname) = (newdir < 2 ^ 64) × (flags < 2 ^ 32)
+FieldsFit _ = Unit {0}
+
+-- the numbers of the pairs of a request lie in their types
+abbrev pub PairsFit : Request → Type 0
+PairsFit (BatchForget pairs) = AllByRecursion PairFits pairs.items
+PairsFit _ = Unit {0}
+
+-- all numbers of a request lie in their types, as those of a value of the program do
+pub record InRange (request : Request) : Type 0 where
+  pub opcode : opcode_of request < 2 ^ 32
+  pub node : node_of request < 2 ^ 64
+  pub fields : FieldsFit request
+  pub pairs : PairsFit request

@@ -2,6 +2,7 @@
 #![tactic(auto)]
 
 mod fault;
+mod fields;
 mod mounts;
 mod naming;
 mod nodes;

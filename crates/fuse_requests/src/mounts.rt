@@ -1,9 +1,12 @@
+ghost use Rattle.std.specs.Prelude.{◌≡◌};
+ghost use Rattle.fuse_requests.specs.Fields.{fields_of};
 ghost use Rattle.fuse_requests.specs.Mounts as layouts;
 ghost use Rattle.fuse_requests.specs.Layout.{read_body};
 ghost use Rattle.fuse_requests.specs.Parts.{Gives};
 ghost use Rattle.fuse_requests.specs.Grammar.{plain};
 
 use crate::fault::BodyFault;
+use crate::fields::Field;
 use crate::parts::{after_fixed, ended, last_pairs};
 use crate::request::Request;
 use fuse_head::{u32_at, u64_at};
@@ -62,4 +65,37 @@ pub(crate) fn batch_forget(alloc: Global, body: &[u8]) -> Result<Request, BodyFa
     let rest = after_fixed(body, 8)?;
     let pairs = last_pairs(alloc, rest, u32_at(body, 0) as usize)?;
     Ok(Request::BatchForget { pairs })
+}
+
+/// `struct fuse_forget_in`: nlookup.
+pub(crate) fn forget_in(count: u64) -> [Field; 1]
+    ensures { fields_of result ≡ layouts.forget_in count }
+{
+    [Field::Long(count)]
+}
+
+/// `struct fuse_init_in`: major, minor, max_readahead, flags.
+pub(crate) fn init_in(major: u32, minor: u32, readahead: u32, flags: u32) -> [Field; 4]
+    ensures { fields_of result ≡ layouts.init_in major minor readahead flags }
+{
+    [
+        Field::Word(major),
+        Field::Word(minor),
+        Field::Word(readahead),
+        Field::Word(flags),
+    ]
+}
+
+/// `struct fuse_interrupt_in`: unique.
+pub(crate) fn interrupt_in() -> [Field; 1]
+    ensures { fields_of result ≡ layouts.interrupt_in }
+{
+    [Field::Long(0)]
+}
+
+/// `struct fuse_batch_forget_in`: count, padding.
+pub(crate) fn batch_forget_in(count: u32) -> [Field; 2]
+    ensures { fields_of result ≡ layouts.batch_forget_in count }
+{
+    [Field::Word(count), Field::Word(0)]
 }

@@ -1,9 +1,12 @@
+ghost use Rattle.std.specs.Prelude.{◌≡◌};
+ghost use Rattle.fuse_requests.specs.Fields.{fields_of};
 ghost use Rattle.fuse_requests.specs.Naming as layouts;
 ghost use Rattle.fuse_requests.specs.Layout.{read_body};
 ghost use Rattle.fuse_requests.specs.Parts.{Gives};
 ghost use Rattle.fuse_requests.specs.Grammar.{plain};
 
 use crate::fault::BodyFault;
+use crate::fields::Field;
 use crate::parts::{after_fixed, last_name, last_two_names};
 use crate::request::Request;
 use fuse_head::{u32_at, u64_at};
@@ -94,4 +97,49 @@ pub(crate) fn rename2(alloc: Global, node: u64, body: &[u8]) -> Result<Request, 
         name,
         newname,
     })
+}
+
+/// `struct fuse_mknod_in`: mode, rdev, umask, padding.
+pub(crate) fn mknod_in(mode: u32) -> [Field; 4]
+    ensures { fields_of result ≡ layouts.mknod_in mode }
+{
+    [
+        Field::Word(mode),
+        Field::Word(0),
+        Field::Word(0),
+        Field::Word(0),
+    ]
+}
+
+/// `struct fuse_mkdir_in`: mode, umask.
+pub(crate) fn mkdir_in() -> [Field; 2]
+    ensures { fields_of result ≡ layouts.mkdir_in }
+{
+    [Field::Word(0), Field::Word(0)]
+}
+
+/// `struct fuse_rename_in`: newdir.
+pub(crate) fn rename_in(newdir: u64) -> [Field; 1]
+    ensures { fields_of result ≡ layouts.rename_in newdir }
+{
+    [Field::Long(newdir)]
+}
+
+/// `struct fuse_create_in`: flags, mode, umask, padding.
+pub(crate) fn create_in() -> [Field; 4]
+    ensures { fields_of result ≡ layouts.create_in }
+{
+    [
+        Field::Word(0),
+        Field::Word(0),
+        Field::Word(0),
+        Field::Word(0),
+    ]
+}
+
+/// `struct fuse_rename2_in`: newdir, flags, padding.
+pub(crate) fn rename2_in(newdir: u64, flags: u32) -> [Field; 3]
+    ensures { fields_of result ≡ layouts.rename2_in newdir flags }
+{
+    [Field::Long(newdir), Field::Word(flags), Field::Word(0)]
 }

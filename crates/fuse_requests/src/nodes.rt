@@ -1,9 +1,12 @@
+ghost use Rattle.std.specs.Prelude.{◌≡◌};
+ghost use Rattle.fuse_requests.specs.Fields.{fields_of};
 ghost use Rattle.fuse_requests.specs.Nodes as layouts;
 ghost use Rattle.fuse_requests.specs.Layout.{read_body};
 ghost use Rattle.fuse_requests.specs.Parts.{Gives};
 ghost use Rattle.fuse_requests.specs.Grammar.{plain};
 
 use crate::fault::BodyFault;
+use crate::fields::Field;
 use crate::parts::{after_fixed, ended, last_bytes};
 use crate::request::Request;
 use fuse_head::{u32_at, u64_at};
@@ -152,4 +155,90 @@ pub(crate) fn flush(node: u64, body: &[u8]) -> Result<Request, BodyFault>
         node,
         fh: u64_at(body, 0),
     })
+}
+
+/// `struct fuse_getattr_in`: flags, padding, fh.
+pub(crate) fn getattr_in() -> [Field; 3]
+    ensures { fields_of result ≡ layouts.getattr_in }
+{
+    [Field::Word(0), Field::Word(0), Field::Long(0)]
+}
+
+/// `struct fuse_setattr_in`: valid, padding, fh, size, lock_owner, atime, mtime, ctime, atimensec, mtimensec,
+/// ctimensec, mode, padding, uid, gid, padding.
+pub(crate) fn setattr_in(valid: u32, size: u64, mtime: u64, nanos: u32) -> [Field; 16]
+    ensures { fields_of result ≡ layouts.setattr_in valid size mtime nanos }
+{
+    [
+        Field::Word(valid),
+        Field::Word(0),
+        Field::Long(0),
+        Field::Long(size),
+        Field::Long(0),
+        Field::Long(0),
+        Field::Long(mtime),
+        Field::Long(0),
+        Field::Word(0),
+        Field::Word(nanos),
+        Field::Word(0),
+        Field::Word(0),
+        Field::Word(0),
+        Field::Word(0),
+        Field::Word(0),
+        Field::Word(0),
+    ]
+}
+
+/// `struct fuse_open_in`: flags, padding.
+pub(crate) fn open_in(flags: u32) -> [Field; 2]
+    ensures { fields_of result ≡ layouts.open_in flags }
+{
+    [Field::Word(flags), Field::Word(0)]
+}
+
+/// `struct fuse_read_in`: fh, offset, size, read_flags, lock_owner, flags, padding; `struct fuse_write_in` is
+/// laid out alike.
+pub(crate) fn read_in(fh: u64, first: u64, size: u32) -> [Field; 7]
+    ensures { fields_of result ≡ layouts.read_in fh first size }
+{
+    [
+        Field::Long(fh),
+        Field::Long(first),
+        Field::Word(size),
+        Field::Word(0),
+        Field::Long(0),
+        Field::Word(0),
+        Field::Word(0),
+    ]
+}
+
+/// `struct fuse_release_in`: fh, flags, release_flags, lock_owner.
+pub(crate) fn release_in(fh: u64) -> [Field; 4]
+    ensures { fields_of result ≡ layouts.release_in fh }
+{
+    [
+        Field::Long(fh),
+        Field::Word(0),
+        Field::Word(0),
+        Field::Long(0),
+    ]
+}
+
+/// `struct fuse_fsync_in`: fh, fsync_flags, padding.
+pub(crate) fn fsync_in(fh: u64) -> [Field; 3]
+    ensures { fields_of result ≡ layouts.fsync_in fh }
+{
+    [Field::Long(fh), Field::Word(0), Field::Word(0)]
+}
+
+/// `struct fuse_flush_in`: fh, unused, padding, lock_owner.
+pub(crate) fn flush_in(fh: u64) -> [Field; 4]
+    ensures { fields_of result ≡ layouts.flush_in fh }
+{
+    [
+        Field::Long(fh),
+        Field::Word(0),
+        Field::Word(0),
+        Field::Long(0),
+    ]
 }

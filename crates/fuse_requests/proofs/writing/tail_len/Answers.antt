@@ -1,0 +1,10 @@
+-- A pair has 16 bytes.
+use Rattle.std.proofs.Common.{◌≡◌, ◌*◌, ℕ, List, length, ap, sym, ◌∙◌}
+use Rattle.fuse_requests.specs.declared.request.Forgotten.{Forgotten}
+use Rattle.fuse_requests.specs.Text.{tail_of}
+use Rattle.fuse_requests.proofs.PairTexts.{length-pairs_text}
+use Rattle.fuse_requests.proofs.writing.tail_len.Goals as goal
+
+pub returns-in-BatchForget : goal.returns-in-BatchForget
+returns-in-BatchForget c =
+    rw (c.in-BatchForget.is, c.as_slice-in-BatchForget.ensures.items) (sym (length-pairs_text c.in-BatchForget.pairs.items))
