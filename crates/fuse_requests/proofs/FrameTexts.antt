@@ -8,18 +8,18 @@ use Rattle.fuse_head.proofs.LittleLemmas.{length-u32_bytes, u32_at-bytes}
 use Rattle.fuse_head.proofs.HeadLemmas.{in_head-text, length-in_head_text}
 use Rattle.fuse_requests.specs.declared.request.Request.{Request}
 use Rattle.fuse_requests.specs.Grammar.{layout_of, read_as, read_frame}
-use Rattle.fuse_requests.specs.Text.{body_text, head_of, node_of, opcode_of, request_text, InRange, IsWritable}
+use Rattle.fuse_requests.specs.Text.{body_text, head_of, request_text, spelling, InRange, IsWritable}
 
 -- what stands behind the length
 after_len : ℕ → Request → List ℕ
 after_len unique request =
-    u32_bytes (opcode_of request) ++ (u64_bytes unique ++ (u64_bytes (node_of request) ++ (u32_bytes 0 ++ (u32_bytes 0 ++ (u32_bytes 0 ++ (u32_bytes 0 ++ body_text request))))))
+    u32_bytes (spelling request).opcode ++ (u64_bytes unique ++ (u64_bytes (spelling request).node ++ (u32_bytes 0 ++ (u32_bytes 0 ++ (u32_bytes 0 ++ (u32_bytes 0 ++ body_text request))))))
 
 -- the length stands at the front
 len_first : (len unique : ℕ) (request : Request) → in_head_text (head_of len unique request) ++ body_text request ≡ u32_bytes len ++ after_len unique request
 unfolding after_len
 len_first len unique request =
-    regroup (u32_bytes len) (u32_bytes (opcode_of request)) (u64_bytes unique) (u64_bytes (node_of request)) (u32_bytes 0) (u32_bytes 0) (u32_bytes 0) (u32_bytes 0) (body_text request)
+    regroup (u32_bytes len) (u32_bytes (spelling request).opcode) (u64_bytes unique) (u64_bytes (spelling request).node) (u32_bytes 0) (u32_bytes 0) (u32_bytes 0) (u32_bytes 0) (body_text request)
   where
     regroup : (a b c d e f g h body : List ℕ) → ((((((((a ++ b) ++ c) ++ d) ++ e) ++ f) ++ g) ++ h) ++ body) ≡ a ++ (b ++ (c ++ (d ++ (e ++ (f ++ (g ++ (h ++ body)))))))
     regroup a b c d e f g h body = simp append_assoc
@@ -78,14 +78,14 @@ unique-request_text unique request unique_fits is range = ap (λ (head : InHead)
 
 -- a frame is read by its opcode and its node
 pub read_frame-text : (unique : ℕ) (request : Request) → unique < 2 ^ 64 → IsWritable request → InRange request
-    → read_frame (request_text unique request) ≡ read_as (opcode_of request) (layout_of (opcode_of request) (node_of request)) (body_text request)
+    → read_frame (request_text unique request) ≡ read_as (spelling request).opcode (layout_of (spelling request).opcode (spelling request).node) (body_text request)
 unfolding read_frame request_text
 read_frame-text unique request unique_fits is range =
     let head = head_read unique request unique_fits is range in
-    let opcode : u32_at (request_text unique request) 4 ≡ opcode_of request = ap (λ (head : InHead). head.opcode) head in
-    let node : u64_at (request_text unique request) 16 ≡ node_of request = ap (λ (head : InHead). head.node) head in
+    let opcode : u32_at (request_text unique request) 4 ≡ (spelling request).opcode = ap (λ (head : InHead). head.opcode) head in
+    let node : u64_at (request_text unique request) 16 ≡ (spelling request).node = ap (λ (head : InHead). head.node) head in
     let body : drop 40 (request_text unique request) ≡ body_text request =
     drop_at (in_head_text (head_of (40 + length (body_text request)) unique request)) (body_text request) 40 (length-in_head_text (head_of (40 + length (body_text request)) unique request)) in
     ap (λ (opcode : ℕ). read_as opcode (layout_of opcode (u64_at (request_text unique request) 16)) (drop 40 (request_text unique request))) opcode
-    ∙ ap (λ (node : ℕ). read_as (opcode_of request) (layout_of (opcode_of request) node) (drop 40 (request_text unique request))) node
-    ∙ ap (λ (bytes : List ℕ). read_as (opcode_of request) (layout_of (opcode_of request) (node_of request)) bytes) body
+    ∙ ap (λ (node : ℕ). read_as (spelling request).opcode (layout_of (spelling request).opcode node) (drop 40 (request_text unique request))) node
+    ∙ ap (λ (bytes : List ℕ). read_as (spelling request).opcode (layout_of (spelling request).opcode (spelling request).node) bytes) body

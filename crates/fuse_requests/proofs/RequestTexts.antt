@@ -7,7 +7,7 @@ use Rattle.fuse_requests.specs.Layout.{fields_text}
 use Rattle.fuse_requests.specs.Nodes.{read_in}
 use Rattle.fuse_requests.specs.Mounts.{batch_forget_in}
 use Rattle.fuse_requests.specs.Grammar.{layout_of, plain, read_as, read_frame}
-use Rattle.fuse_requests.specs.Text.{body_text, node_of, opcode_of, pairs_text, request_text, FieldsFit, HasNames, InRange, IsWritable, PairsFit}
+use Rattle.fuse_requests.specs.Text.{body_text, pairs_text, request_text, spelling, FieldsFit, HasNames, InRange, IsWritable, PairsFit}
 use Rattle.fuse_requests.proofs.FrameTexts.{read_frame-text}
 use Rattle.fuse_requests.proofs.PairTexts.{length-pairs_text}
 use Rattle.fuse_requests.proofs.NamingTexts.{lookup-text, symlink-text, mknod-text, mkdir-text, unlink-text, rmdir-text, rename-text, create-text, rename2-text}
@@ -19,7 +19,7 @@ content_fits : (fixed content : List ℕ) → 40 + length (fixed ++ content) ≤
 content_fits fixed content fits = omega (arith, length-append fixed content)
 
 body_read : (request : Request) → HasNames request → 40 + length (body_text request) ≤ 135168 → FieldsFit request → PairsFit request
-    → read_as (opcode_of request) (layout_of (opcode_of request) (node_of request)) (body_text request) ≡ Ok (plain request)
+    → read_as (spelling request).opcode (layout_of (spelling request).opcode (spelling request).node) (body_text request) ≡ Ok (plain request)
 body_read (Lookup node name) is long fit pairs = lookup-text node name is
 body_read (Forget node count) is long fit pairs = forget-text node count fit
 body_read (Getattr node) is long fit pairs = getattr-text node

@@ -15,90 +15,6 @@ use Rattle.fuse_requests.specs.Mounts.{forget_in, init_in, interrupt_in, batch_f
 use Rattle.fuse_requests.specs.Parts.{is_zero}
 use Rattle.fuse_requests.specs.Grammar.{layout_of}
 
--- the opcode of a request
-abbrev pub opcode_of : Request → ℕ
-opcode_of (Lookup node name) = 1
-opcode_of (Forget node count) = 2
-opcode_of (Getattr node) = 3
-opcode_of (Setattr node valid size mtime nanos) = 4
-opcode_of (Readlink node) = 5
-opcode_of (Symlink node name target) = 6
-opcode_of (Mknod node mode name) = 8
-opcode_of (Mkdir node name) = 9
-opcode_of (Unlink node name) = 10
-opcode_of (Rmdir node name) = 11
-opcode_of (Rename node newdir name newname) = 12
-opcode_of (Opening node flags) = 14
-opcode_of (Read node fh first size) = 15
-opcode_of (Write node fh first content) = 16
-opcode_of Statfs = 17
-opcode_of (Release node fh) = 18
-opcode_of (Fsync node fh) = 20
-opcode_of (Flush node fh) = 25
-opcode_of (Init major minor readahead flags) = 26
-opcode_of (Opendir node) = 27
-opcode_of (Readdir node fh first size) = 28
-opcode_of (Releasedir node fh) = 29
-opcode_of (Fsyncdir node fh) = 30
-opcode_of (Create node name) = 35
-opcode_of Interrupt = 36
-opcode_of Destroy = 38
-opcode_of (BatchForget pairs) = 42
-opcode_of (Rename2 node newdir flags name newname) = 45
-opcode_of (Unknown opcode) = opcode
-
--- the head's node: 0 for a request that speaks of none
-abbrev pub node_of : Request → ℕ
-node_of (Lookup node name) = node
-node_of (Forget node count) = node
-node_of (Getattr node) = node
-node_of (Setattr node valid size mtime nanos) = node
-node_of (Readlink node) = node
-node_of (Symlink node name target) = node
-node_of (Mknod node mode name) = node
-node_of (Mkdir node name) = node
-node_of (Unlink node name) = node
-node_of (Rmdir node name) = node
-node_of (Rename node newdir name newname) = node
-node_of (Opening node flags) = node
-node_of (Read node fh first size) = node
-node_of (Write node fh first content) = node
-node_of (Release node fh) = node
-node_of (Fsync node fh) = node
-node_of (Flush node fh) = node
-node_of (Opendir node) = node
-node_of (Readdir node fh first size) = node
-node_of (Releasedir node fh) = node
-node_of (Fsyncdir node fh) = node
-node_of (Create node name) = node
-node_of (Rename2 node newdir flags name newname) = node
-node_of _ = 0
-
--- the fixed part of the body
-abbrev pub fixed_of : Request → List Field
-fixed_of (Forget node count) = forget_in count
-fixed_of (Getattr node) = getattr_in
-fixed_of (Setattr node valid size mtime nanos) = setattr_in valid size mtime nanos
-fixed_of (Mknod node mode name) = mknod_in mode
-fixed_of (Mkdir node name) = mkdir_in
-fixed_of (Rename node newdir name newname) = rename_in newdir
-fixed_of (Opening node flags) = open_in flags
-fixed_of (Read node fh first size) = read_in fh first size
-fixed_of (Write node fh first content) = read_in fh first (length content)
-fixed_of (Release node fh) = release_in fh
-fixed_of (Fsync node fh) = fsync_in fh
-fixed_of (Flush node fh) = flush_in fh
-fixed_of (Init major minor readahead flags) = init_in major minor readahead flags
-fixed_of (Opendir node) = open_in 0
-fixed_of (Readdir node fh first size) = read_in fh first size
-fixed_of (Releasedir node fh) = release_in fh
-fixed_of (Fsyncdir node fh) = fsync_in fh
-fixed_of (Create node name) = create_in
-fixed_of Interrupt = interrupt_in
-fixed_of (BatchForget pairs) = batch_forget_in (length pairs.items)
-fixed_of (Rename2 node newdir flags name newname) = rename2_in newdir flags
-fixed_of _ = []
-
 -- a name ends with a zero byte
 abbrev pub name_text : List ℕ → List ℕ
 name_text name = name ++ 0 ∷ []
@@ -110,32 +26,59 @@ pair_text pair = u64_bytes pair.node ++ u64_bytes pair.count
 abbrev pub pairs_text : List Forgotten → List ℕ
 pairs_text pairs = flat_map pair_text pairs
 
--- what stands behind the fixed part
-abbrev pub tail_of : Request → List ℕ
-tail_of (Lookup node name) = name_text name
-tail_of (Symlink node name target) = name_text name ++ name_text target
-tail_of (Mknod node mode name) = name_text name
-tail_of (Mkdir node name) = name_text name
-tail_of (Unlink node name) = name_text name
-tail_of (Rmdir node name) = name_text name
-tail_of (Rename node newdir name newname) = name_text name ++ name_text newname
-tail_of (Write node fh first content) = content
-tail_of (Create node name) = name_text name
-tail_of (BatchForget pairs) = pairs_text pairs.items
-tail_of (Rename2 node newdir flags name newname) = name_text name ++ name_text newname
-tail_of _ = []
+-- How a request is written: its opcode, the head's node, the fixed part of its body, and what stands behind it.
+pub record Spelling : Type 0 where
+  pub opcode : ℕ
+  pub node : ℕ
+  pub fixed : List Field
+  pub tail : List ℕ
+
+abbrev pub spelled : ℕ → ℕ → List Field → List ℕ → Spelling
+spelled opcode node fixed tail = record { opcode = opcode; node = node; fixed = fixed; tail = tail }
+
+-- the table: a request that speaks of no node has 0 in its place
+abbrev pub spelling : Request → Spelling
+spelling (Lookup node name) = spelled 1 node [] (name_text name)
+spelling (Forget node count) = spelled 2 node (forget_in count) []
+spelling (Getattr node) = spelled 3 node getattr_in []
+spelling (Setattr node valid size mtime nanos) = spelled 4 node (setattr_in valid size mtime nanos) []
+spelling (Readlink node) = spelled 5 node [] []
+spelling (Symlink node name target) = spelled 6 node [] (name_text name ++ name_text target)
+spelling (Mknod node mode name) = spelled 8 node (mknod_in mode) (name_text name)
+spelling (Mkdir node name) = spelled 9 node mkdir_in (name_text name)
+spelling (Unlink node name) = spelled 10 node [] (name_text name)
+spelling (Rmdir node name) = spelled 11 node [] (name_text name)
+spelling (Rename node newdir name newname) = spelled 12 node (rename_in newdir) (name_text name ++ name_text newname)
+spelling (Opening node flags) = spelled 14 node (open_in flags) []
+spelling (Read node fh first size) = spelled 15 node (read_in fh first size) []
+spelling (Write node fh first content) = spelled 16 node (read_in fh first (length content)) content
+spelling Statfs = spelled 17 0 [] []
+spelling (Release node fh) = spelled 18 node (release_in fh) []
+spelling (Fsync node fh) = spelled 20 node (fsync_in fh) []
+spelling (Flush node fh) = spelled 25 node (flush_in fh) []
+spelling (Init major minor readahead flags) = spelled 26 0 (init_in major minor readahead flags) []
+spelling (Opendir node) = spelled 27 node (open_in 0) []
+spelling (Readdir node fh first size) = spelled 28 node (read_in fh first size) []
+spelling (Releasedir node fh) = spelled 29 node (release_in fh) []
+spelling (Fsyncdir node fh) = spelled 30 node (fsync_in fh) []
+spelling (Create node name) = spelled 35 node create_in (name_text name)
+spelling Interrupt = spelled 36 0 interrupt_in []
+spelling Destroy = spelled 38 0 [] []
+spelling (BatchForget pairs) = spelled 42 0 (batch_forget_in (length pairs.items)) (pairs_text pairs.items)
+spelling (Rename2 node newdir flags name newname) = spelled 45 node (rename2_in newdir flags) (name_text name ++ name_text newname)
+spelling (Unknown opcode) = spelled opcode 0 [] []
 
 -- the text of a request's body
 abbrev pub body_text : Request → List ℕ
-body_text request = fields_text (fixed_of request) ++ tail_of request
+body_text request = fields_text (spelling request).fixed ++ (spelling request).tail
 
 -- the head of a frame with this length and this unique: no user, group or process is named
 abbrev pub head_of : ℕ → ℕ → Request → InHead
 head_of len unique request = record {
   len = len;
-  opcode = opcode_of request;
+  opcode = (spelling request).opcode;
   unique = unique;
-  node = node_of request;
+  node = (spelling request).node;
   uid = 0;
   gid = 0;
   pid = 0;
@@ -198,7 +141,7 @@ PairsFit _ = Unit {0}
 
 -- all numbers of a request lie in their types, as those of a value of the program do
 pub record InRange (request : Request) : Type 0 where
-  pub opcode : opcode_of request < 2 ^ 32
-  pub node : node_of request < 2 ^ 64
+  pub opcode : (spelling request).opcode < 2 ^ 32
+  pub node : (spelling request).node < 2 ^ 64
   pub fields : FieldsFit request
   pub pairs : PairsFit request

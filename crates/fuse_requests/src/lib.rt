@@ -3,6 +3,8 @@
 
 mod fault;
 mod fields;
+mod fixed;
+mod head;
 mod mounts;
 mod naming;
 mod nodes;
@@ -10,6 +12,7 @@ mod opcode;
 mod parts;
 mod reading;
 mod request;
+mod tail;
 mod writing;
 
 pub use fault::BodyFault;

@@ -1,9 +1,9 @@
 -- A pair has 16 bytes.
 use Rattle.std.proofs.Common.{◌≡◌, ◌*◌, ℕ, List, length, ap, sym, ◌∙◌}
 use Rattle.fuse_requests.specs.declared.request.Forgotten.{Forgotten}
-use Rattle.fuse_requests.specs.Text.{tail_of}
+use Rattle.fuse_requests.specs.Text.{spelling}
 use Rattle.fuse_requests.proofs.PairTexts.{length-pairs_text}
-use Rattle.fuse_requests.proofs.writing.tail_len.Goals as goal
+use Rattle.fuse_requests.proofs.tail.tail_len.Goals as goal
 
 pub returns-in-BatchForget : goal.returns-in-BatchForget
 returns-in-BatchForget c =

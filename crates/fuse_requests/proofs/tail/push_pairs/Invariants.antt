@@ -2,7 +2,7 @@
 use Rattle.std.proofs.Common.{◌≡◌, ◌++◌, drop}
 use Rattle.std.specs.List.{AllByRecursion}
 use Rattle.fuse_requests.specs.Text.{pairs_text, PairFits}
-use Rattle.fuse_requests.proofs.writing.push_pairs.Given as goal
+use Rattle.fuse_requests.proofs.tail.push_pairs.Given as goal
 
 abbrev pub invariant-loop-pair : goal.invariant-loop-pair
 invariant-loop-pair l = record {
