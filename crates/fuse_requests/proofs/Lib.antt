@@ -8,3 +8,4 @@ pub mod NamingTexts
 pub mod NodeTexts
 pub mod MountTexts
 pub mod RequestTexts
+pub mod Writable

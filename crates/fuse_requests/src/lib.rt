@@ -13,6 +13,8 @@ mod parts;
 mod reading;
 mod request;
 mod tail;
+#[cfg(test)]
+mod tests;
 mod writing;
 
 pub use fault::BodyFault;

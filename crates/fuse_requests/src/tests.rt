@@ -1,0 +1,567 @@
+ghost use Rattle.std.specs.Prelude.{◌≤◌, length, IsTrue};
+ghost use Rattle.fuse_requests.specs.Text.{spelling, HasNames, IsName, IsWritable};
+
+use crate::{BodyFault, Forgotten, Request, read_request, write_request};
+use fuse_head::whole_frame;
+use io_ports::{Bytes, Row};
+use std::alloc::{AllocError, Global};
+use std::process::Abort;
+use std::test::Fail;
+
+const UNIQUE: u64 = 0x1716_1514_1312_1110;
+
+const NODE: u64 = 0x2726_2524_2322_2120;
+
+/// SETATTR with valid 0x33323130, size 0x47464544_43424140, mtime 0x57565554_53525150 and nanos 0x63626160.
+const SETATTR: [u8; 88] = [
+    0x30, 0x31, 0x32, 0x33, 0, 0, 0, 0, // valid, padding
+    0, 0, 0, 0, 0, 0, 0, 0, // fh
+    0x40, 0x41, 0x42, 0x43, 0x44, 0x45, 0x46, 0x47, // size
+    0, 0, 0, 0, 0, 0, 0, 0, // lock_owner
+    0, 0, 0, 0, 0, 0, 0, 0, // atime
+    0x50, 0x51, 0x52, 0x53, 0x54, 0x55, 0x56, 0x57, // mtime
+    0, 0, 0, 0, 0, 0, 0, 0, // ctime
+    0, 0, 0, 0, 0x60, 0x61, 0x62, 0x63, // atimensec, mtimensec
+    0, 0, 0, 0, 0, 0, 0, 0, // ctimensec, mode
+    0, 0, 0, 0, 0, 0, 0, 0, // padding, uid
+    0, 0, 0, 0, 0, 0, 0, 0, // gid, padding
+];
+
+/// READ, WRITE and READDIR with fh 0x37363534_33323130, offset 0x47464544_43424140 and size 3.
+const READ: [u8; 40] = [
+    0x30, 0x31, 0x32, 0x33, 0x34, 0x35, 0x36, 0x37, // fh
+    0x40, 0x41, 0x42, 0x43, 0x44, 0x45, 0x46, 0x47, // offset
+    3, 0, 0, 0, 0, 0, 0, 0, // size, read_flags
+    0, 0, 0, 0, 0, 0, 0, 0, // lock_owner
+    0, 0, 0, 0, 0, 0, 0, 0, // flags, padding
+];
+
+/// RELEASE and FLUSH with fh 0x37363534_33323130.
+const RELEASE: [u8; 24] = [
+    0x30, 0x31, 0x32, 0x33, 0x34, 0x35, 0x36, 0x37, // fh
+    0, 0, 0, 0, 0, 0, 0, 0, // flags, release_flags
+    0, 0, 0, 0, 0, 0, 0, 0, // lock_owner
+];
+
+/// FSYNC with fh 0x37363534_33323130.
+const FSYNC: [u8; 16] = [
+    0x30, 0x31, 0x32, 0x33, 0x34, 0x35, 0x36, 0x37, // fh
+    0, 0, 0, 0, 0, 0, 0, 0, // fsync_flags, padding
+];
+
+const FH: u64 = 0x3736_3534_3332_3130;
+
+const FIRST: u64 = 0x4746_4544_4342_4140;
+
+/// A frame with this opcode, node and body, its head written out field by field.
+fn framed(alloc: Global, opcode: u32, node: u64, body: &[u8]) -> Result<Vec<u8>, AllocError>
+    requires { length body.now ≤ 1000 }
+{
+    let len = 40 + body.len() as u32;
+    let mut frame = Vec::new(alloc);
+    frame.extend_from_slice(&len.to_le_bytes())?;
+    frame.extend_from_slice(&opcode.to_le_bytes())?;
+    frame.extend_from_slice(&UNIQUE.to_le_bytes())?;
+    frame.extend_from_slice(&node.to_le_bytes())?;
+    frame.extend_from_slice(&[0; 16])?;
+    frame.extend_from_slice(body)?;
+    Ok(frame)
+}
+
+/// The fault of a frame with this opcode and body; none where it is read.
+fn fault_of(
+    rt: &impl Abort,
+    alloc: Global,
+    opcode: u32,
+    body: &[u8],
+) -> Result<Option<BodyFault>, Fail>
+    requires { length body.now ≤ 1000 }
+{
+    let frame = framed(alloc, opcode, NODE, body)?;
+    assert!(rt; whole_frame(&frame));
+    Ok(read_request(alloc, &frame).err())
+}
+
+/// That the request is written as this opcode, node and body, and read back from them, and which faults a body
+/// of one byte less and one of one byte more have.
+fn both_ways(
+    rt: &impl Abort,
+    alloc: Global,
+    request: &Request,
+    opcode: u32,
+    node: u64,
+    body: &[u8],
+    short: Option<BodyFault>,
+    long: Option<BodyFault>,
+) -> Result<(), Fail>
+    requires { length body.now ≤ 500 }
+{
+    assert!(rt; is_writable(request));
+    let frame = framed(alloc, opcode, node, body)?;
+    let written = write_request(alloc, UNIQUE, request)?;
+    assert_eq!(rt; written.as_slice(), frame.as_slice());
+    assert!(rt; whole_frame(&frame));
+    let read = read_request(alloc, &frame)?;
+    let read = format!(in alloc; "{read:?}")?;
+    let meant = format!(in alloc; "{request:?}")?;
+    assert_eq!(rt; read.as_str(), meant.as_str());
+    if let [front @ .., _] = body {
+        assert_eq!(rt; fault_of(rt, alloc, opcode, front)?, short);
+    }
+    let mut longer = Vec::from_slice(alloc, body)?;
+    longer.push(7)?;
+    assert_eq!(rt; fault_of(rt, alloc, opcode, &longer)?, long);
+    Ok(())
+}
+
+/// Whether a small request can be written.
+fn is_writable(request: &Request) -> bool
+    ensures { IsTrue result → IsWritable request.now }
+{
+    has_names(request) && small(request)
+}
+
+fn has_names(request: &Request) -> bool
+    ensures { IsTrue result → HasNames request.now }
+{
+    match request {
+        Request::Lookup { name, .. }
+        | Request::Mknod { name, .. }
+        | Request::Mkdir { name, .. }
+        | Request::Unlink { name, .. }
+        | Request::Rmdir { name, .. }
+        | Request::Create { name, .. } => is_name(name),
+        Request::Symlink { name, target, .. } => is_name(name) && is_name(target),
+        Request::Rename { name, newname, .. } | Request::Rename2 { name, newname, .. } => {
+            is_name(name) && is_name(newname)
+        }
+        Request::Unknown { opcode: 44 } => true,
+        Request::Unknown { .. } => false,
+        _ => true,
+    }
+}
+
+fn is_name(name: &Bytes) -> bool
+    ensures { IsTrue result → IsName name.now }
+{
+    !name.as_slice().contains(&0)
+}
+
+fn small(request: &Request) -> bool
+    ensures { IsTrue result → length (spelling request.now).tail ≤ 1000 }
+{
+    match request {
+        Request::Lookup { name, .. }
+        | Request::Mknod { name, .. }
+        | Request::Mkdir { name, .. }
+        | Request::Unlink { name, .. }
+        | Request::Rmdir { name, .. }
+        | Request::Create { name, .. } => name.as_slice().len() < 100,
+        Request::Symlink { name, target, .. } => {
+            name.as_slice().len() < 100 && target.as_slice().len() < 100
+        }
+        Request::Rename { name, newname, .. } | Request::Rename2 { name, newname, .. } => {
+            name.as_slice().len() < 100 && newname.as_slice().len() < 100
+        }
+        Request::Write { content, .. } => content.as_slice().len() < 100,
+        Request::BatchForget { pairs } => pairs.len() < 10,
+        _ => true,
+    }
+}
+
+/// A request whose body ends with a name.
+fn named(
+    rt: &impl Abort,
+    alloc: Global,
+    request: &Request,
+    opcode: u32,
+    body: &[u8],
+) -> Result<(), Fail>
+    requires { length body.now ≤ 500 }
+{
+    both_ways(
+        rt,
+        alloc,
+        request,
+        opcode,
+        NODE,
+        body,
+        Some(BodyFault::NoZeroByte),
+        Some(BodyFault::LongTail),
+    )
+}
+
+/// A request of a node whose body has no part of an open length.
+fn fixed(
+    rt: &impl Abort,
+    alloc: Global,
+    request: &Request,
+    opcode: u32,
+    body: &[u8],
+) -> Result<(), Fail>
+    requires { length body.now ≤ 500 }
+{
+    both_ways(
+        rt,
+        alloc,
+        request,
+        opcode,
+        NODE,
+        body,
+        Some(BodyFault::Short),
+        Some(BodyFault::LongTail),
+    )
+}
+
+#[test]
+fn names_stand_behind_the_fixed_part(rt: HostRuntime) -> Result<(), Fail> {
+    let alloc = rt.alloc();
+    let name = Bytes::of(alloc, b"foo")?;
+    named(
+        &rt,
+        alloc,
+        &Request::Lookup { node: NODE, name },
+        1,
+        b"foo\0",
+    )?;
+    let name = Bytes::of(alloc, b"fifo")?;
+    let mode = 0x3332_3130;
+    named(
+        &rt,
+        alloc,
+        &Request::Mknod {
+            node: NODE,
+            mode,
+            name,
+        },
+        8,
+        b"0123\0\0\0\0\0\0\0\0\0\0\0\0fifo\0",
+    )?;
+    let name = Bytes::of(alloc, b"d")?;
+    named(
+        &rt,
+        alloc,
+        &Request::Mkdir { node: NODE, name },
+        9,
+        b"\0\0\0\0\0\0\0\0d\0",
+    )?;
+    let name = Bytes::of(alloc, b"")?;
+    named(&rt, alloc, &Request::Unlink { node: NODE, name }, 10, b"\0")?;
+    let name = Bytes::of(alloc, b"\xff/")?;
+    named(
+        &rt,
+        alloc,
+        &Request::Rmdir { node: NODE, name },
+        11,
+        b"\xff/\0",
+    )?;
+    let name = Bytes::of(alloc, b"new")?;
+    named(
+        &rt,
+        alloc,
+        &Request::Create { node: NODE, name },
+        35,
+        b"\0\0\0\0\0\0\0\0\0\0\0\0\0\0\0\0new\0",
+    )
+}
+
+#[test]
+fn two_names_stand_one_after_the_other(rt: HostRuntime) -> Result<(), Fail> {
+    let alloc = rt.alloc();
+    let name = Bytes::of(alloc, b"l")?;
+    let target = Bytes::of(alloc, b"to/x")?;
+    named(
+        &rt,
+        alloc,
+        &Request::Symlink {
+            node: NODE,
+            name,
+            target,
+        },
+        6,
+        b"l\0to/x\0",
+    )?;
+    let newdir = 0x3736_3534_3332_3130;
+    let name = Bytes::of(alloc, b"old")?;
+    let newname = Bytes::of(alloc, b"new")?;
+    named(
+        &rt,
+        alloc,
+        &Request::Rename {
+            node: NODE,
+            newdir,
+            name,
+            newname,
+        },
+        12,
+        b"01234567old\0new\0",
+    )?;
+    let flags = 0x4342_4140;
+    let name = Bytes::of(alloc, b"old")?;
+    let newname = Bytes::of(alloc, b"new")?;
+    named(
+        &rt,
+        alloc,
+        &Request::Rename2 {
+            node: NODE,
+            newdir,
+            flags,
+            name,
+            newname,
+        },
+        45,
+        b"01234567@ABC\0\0\0\0old\0new\0",
+    )
+}
+
+#[test]
+fn requests_of_a_node_have_the_kernel_s_layouts(rt: HostRuntime) -> Result<(), Fail> {
+    let alloc = rt.alloc();
+    let count = 0x3736_3534_3332_3130;
+    fixed(
+        &rt,
+        alloc,
+        &Request::Forget { node: NODE, count },
+        2,
+        b"01234567",
+    )?;
+    fixed(&rt, alloc, &Request::Getattr { node: NODE }, 3, &[0; 16])?;
+    let setattr = Request::Setattr {
+        node: NODE,
+        valid: 0x3332_3130,
+        size: 0x4746_4544_4342_4140,
+        mtime: 0x5756_5554_5352_5150,
+        nanos: 0x6362_6160,
+    };
+    fixed(&rt, alloc, &setattr, 4, &SETATTR)?;
+    fixed(&rt, alloc, &Request::Readlink { node: NODE }, 5, b"")?;
+    fixed(
+        &rt,
+        alloc,
+        &Request::Opening {
+            node: NODE,
+            flags: 0x3332_3130,
+        },
+        14,
+        b"0123\0\0\0\0",
+    )?;
+    fixed(&rt, alloc, &Request::Opendir { node: NODE }, 27, &[0; 8])
+}
+
+#[test]
+fn requests_of_a_handle_have_the_kernel_s_layouts(rt: HostRuntime) -> Result<(), Fail> {
+    let alloc = rt.alloc();
+    let read = Request::Read {
+        node: NODE,
+        fh: FH,
+        first: FIRST,
+        size: 3,
+    };
+    fixed(&rt, alloc, &read, 15, &READ)?;
+    let readdir = Request::Readdir {
+        node: NODE,
+        fh: FH,
+        first: FIRST,
+        size: 3,
+    };
+    fixed(&rt, alloc, &readdir, 28, &READ)?;
+    let content = Bytes::of(alloc, b"a\0c")?;
+    let mut body = Vec::from_slice(alloc, &READ)?;
+    body.extend_from_slice(b"a\0c")?;
+    fixed(
+        &rt,
+        alloc,
+        &Request::Write {
+            node: NODE,
+            fh: FH,
+            first: FIRST,
+            content,
+        },
+        16,
+        &body,
+    )?;
+    fixed(
+        &rt,
+        alloc,
+        &Request::Release { node: NODE, fh: FH },
+        18,
+        &RELEASE,
+    )?;
+    fixed(
+        &rt,
+        alloc,
+        &Request::Flush { node: NODE, fh: FH },
+        25,
+        &RELEASE,
+    )?;
+    fixed(
+        &rt,
+        alloc,
+        &Request::Releasedir { node: NODE, fh: FH },
+        29,
+        &RELEASE,
+    )?;
+    fixed(
+        &rt,
+        alloc,
+        &Request::Fsync { node: NODE, fh: FH },
+        20,
+        &FSYNC,
+    )?;
+    fixed(
+        &rt,
+        alloc,
+        &Request::Fsyncdir { node: NODE, fh: FH },
+        30,
+        &FSYNC,
+    )
+}
+
+#[test]
+fn requests_of_the_mount_name_no_node(rt: HostRuntime) -> Result<(), Fail> {
+    let alloc = rt.alloc();
+    let long = Some(BodyFault::LongTail);
+    both_ways(&rt, alloc, &Request::Statfs, 17, 0, b"", None, long)?;
+    both_ways(&rt, alloc, &Request::Destroy, 38, 0, b"", None, long)?;
+    both_ways(
+        &rt,
+        alloc,
+        &Request::Interrupt,
+        36,
+        0,
+        &[0; 8],
+        Some(BodyFault::Short),
+        long,
+    )?;
+    let init = Request::Init {
+        major: 0x3332_3130,
+        minor: 0x3736_3534,
+        readahead: 0x4342_4140,
+        flags: 0x4746_4544,
+    };
+    both_ways(
+        &rt,
+        alloc,
+        &init,
+        26,
+        0,
+        b"01234567@ABCDEFG",
+        Some(BodyFault::Short),
+        None,
+    )?;
+    both_ways(
+        &rt,
+        alloc,
+        &Request::Unknown { opcode: 44 },
+        44,
+        0,
+        b"",
+        None,
+        None,
+    )?;
+    let mut pairs = Row::new(alloc);
+    pairs.reserve(2)?;
+    pairs.push(Forgotten {
+        node: 0x3736_3534_3332_3130,
+        count: 0x4746_4544_4342_4140,
+    });
+    pairs.push(Forgotten { node: 5, count: 6 });
+    let body = b"\x02\0\0\0\0\0\0\001234567@ABCDEFG\x05\0\0\0\0\0\0\0\x06\0\0\0\0\0\0\0";
+    let count = Some(BodyFault::BadCount);
+    both_ways(
+        &rt,
+        alloc,
+        &Request::BatchForget { pairs },
+        42,
+        0,
+        body,
+        count,
+        count,
+    )
+}
+
+#[test]
+fn a_forget_is_these_bytes(rt: HostRuntime) -> Result<(), Fail> {
+    let alloc = rt.alloc();
+    let forget = Request::Forget { node: 2, count: 1 };
+    assert!(rt; is_writable(&forget));
+    let frame = write_request(alloc, 1, &forget)?;
+    let expected = [
+        0x30, 0, 0, 0, 2, 0, 0, 0, 1, 0, 0, 0, 0, 0, 0, 0, 2, 0, 0, 0, 0, 0, 0, 0, 0, 0, 0, 0, 0,
+        0, 0, 0, 0, 0, 0, 0, 0, 0, 0, 0, 1, 0, 0, 0, 0, 0, 0, 0,
+    ];
+    assert_eq!(rt; frame.as_slice(), expected.as_slice());
+    Ok(())
+}
+
+#[test]
+fn the_first_fault_is_told(rt: HostRuntime) -> Result<(), Fail> {
+    let alloc = rt.alloc();
+    assert_eq!(rt;
+        fault_of(&rt, alloc, 1, b"foo\0\0")?,
+        Some(BodyFault::LongTail)
+    );
+    assert_eq!(rt;
+        fault_of(&rt, alloc, 1, b"foo")?,
+        Some(BodyFault::NoZeroByte)
+    );
+    assert_eq!(rt;
+        fault_of(&rt, alloc, 12, b"\0\0\0\0\0\0\0")?,
+        Some(BodyFault::Short)
+    );
+    assert_eq!(rt;
+        fault_of(&rt, alloc, 12, b"01234567old\0new")?,
+        Some(BodyFault::NoZeroByte)
+    );
+    let one_of_two = b"\x02\0\0\0\0\0\0\001234567@ABCDEFG";
+    assert_eq!(rt;
+        fault_of(&rt, alloc, 42, one_of_two)?,
+        Some(BodyFault::BadCount)
+    );
+    assert_eq!(rt;
+        fault_of(&rt, alloc, 42, b"\x02\0\0\0")?,
+        Some(BodyFault::Short)
+    );
+    assert_eq!(rt; fault_of(&rt, alloc, 16, &READ)?, Some(BodyFault::Short));
+    assert_eq!(rt; fault_of(&rt, alloc, 44, b"anything")?, None);
+    Ok(())
+}
+
+/// What a frame with this opcode and body asks, as a text.
+fn asked(rt: &impl Abort, alloc: Global, opcode: u32, body: &[u8]) -> Result<String, Fail>
+    requires { length body.now ≤ 1000 }
+{
+    let frame = framed(alloc, opcode, NODE, body)?;
+    assert!(rt; whole_frame(&frame));
+    let request = read_request(alloc, &frame)?;
+    Ok(format!(in alloc; "{request:?}")?)
+}
+
+#[test]
+fn padding_and_unused_fields_are_read_past(rt: HostRuntime) -> Result<(), Fail> {
+    let alloc = rt.alloc();
+    let opened = asked(&rt, alloc, 14, b"0123\xff\xff\xff\xff")?;
+    assert_eq!(rt;
+        opened.as_str(),
+        "Opening { node: 2820983053732684064, flags: 858927408 }"
+    );
+    let init = asked(&rt, alloc, 26, &[1; 64])?;
+    assert_eq!(rt;
+        init.as_str(),
+        "Init { major: 16843009, minor: 16843009, readahead: 16843009, flags: 16843009 }"
+    );
+    let statfs = asked(&rt, alloc, 17, b"")?;
+    assert_eq!(rt; statfs.as_str(), "Statfs");
+    Ok(())
+}
+
+#[test]
+fn opcodes_that_are_not_served_are_unknown(rt: HostRuntime) -> Result<(), Fail> {
+    let alloc = rt.alloc();
+    for opcode in [0, 7, 13, 21, 22, 23, 24, 34, 43, 44, 46, u32::MAX] {
+        let request = asked(&rt, alloc, opcode, b"any\0body")?;
+        let unknown = format!(in alloc; "Unknown {{ opcode: {opcode} }}")?;
+        assert_eq!(rt; request.as_str(), unknown.as_str());
+    }
+    Ok(())
+}
