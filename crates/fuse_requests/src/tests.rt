@@ -380,6 +380,12 @@ fn requests_of_a_handle_have_the_kernel_s_layouts(rt: HostRuntime) -> Result<(),
         16,
         &body,
     )?;
+    Ok(())
+}
+
+#[test]
+fn requests_that_end_a_handle_have_the_kernel_s_layouts(rt: HostRuntime) -> Result<(), Fail> {
+    let alloc = rt.alloc();
     fixed(
         &rt,
         alloc,
