@@ -1,3 +1,5 @@
+// Requests that speak of the whole mount, or take look-ups back: their bodies read, and their fixed parts as
+// Linux `fuse.h` 7.31 lays them out.
 ghost use Rattle.std.specs.Prelude.{◌≡◌};
 ghost use Rattle.fuse_requests.specs.Fields.{fields_of};
 ghost use Rattle.fuse_requests.specs.Mounts as layouts;
@@ -12,6 +14,7 @@ use crate::request::Request;
 use fuse_head::{u32_at, u64_at};
 use std::alloc::Global;
 
+/// Reads the body of FORGET: [`forget_in`].
 pub(crate) fn forget(node: u64, body: &[u8]) -> Result<Request, BodyFault>
     ensures { Gives plain result (read_body (layouts.forget node) body.now) }
 {
@@ -23,6 +26,14 @@ pub(crate) fn forget(node: u64, body: &[u8]) -> Result<Request, BodyFault>
     })
 }
 
+/// `struct fuse_forget_in`: nlookup.
+pub(crate) fn forget_in(count: u64) -> [Field; 1]
+    ensures { fields_of result ≡ layouts.forget_in count }
+{
+    [Field::Long(count)]
+}
+
+/// Reads the body of STATFS, which is empty.
 pub(crate) fn statfs(body: &[u8]) -> Result<Request, BodyFault>
     ensures { Gives plain result (read_body (layouts.statfs) body.now) }
 {
@@ -31,6 +42,7 @@ pub(crate) fn statfs(body: &[u8]) -> Result<Request, BodyFault>
     Ok(Request::Statfs)
 }
 
+/// Reads the body of INIT: [`init_in`]. What later minors have behind it is ignored.
 pub(crate) fn init(body: &[u8]) -> Result<Request, BodyFault>
     ensures { Gives plain result (read_body (layouts.init) body.now) }
 {
@@ -41,37 +53,6 @@ pub(crate) fn init(body: &[u8]) -> Result<Request, BodyFault>
         readahead: u32_at(body, 8),
         flags: u32_at(body, 12),
     })
-}
-
-pub(crate) fn interrupt(body: &[u8]) -> Result<Request, BodyFault>
-    ensures { Gives plain result (read_body (layouts.interrupt) body.now) }
-{
-    let rest = after_fixed(body, 8)?;
-    ended(rest)?;
-    Ok(Request::Interrupt)
-}
-
-pub(crate) fn destroy(body: &[u8]) -> Result<Request, BodyFault>
-    ensures { Gives plain result (read_body (layouts.destroy) body.now) }
-{
-    let rest = after_fixed(body, 0)?;
-    ended(rest)?;
-    Ok(Request::Destroy)
-}
-
-pub(crate) fn batch_forget(alloc: Global, body: &[u8]) -> Result<Request, BodyFault>
-    ensures { Gives plain result (read_body (layouts.batch_forget) body.now) }
-{
-    let rest = after_fixed(body, 8)?;
-    let pairs = last_pairs(alloc, rest, u32_at(body, 0) as usize)?;
-    Ok(Request::BatchForget { pairs })
-}
-
-/// `struct fuse_forget_in`: nlookup.
-pub(crate) fn forget_in(count: u64) -> [Field; 1]
-    ensures { fields_of result ≡ layouts.forget_in count }
-{
-    [Field::Long(count)]
 }
 
 /// `struct fuse_init_in`: major, minor, max_readahead, flags.
@@ -86,11 +67,38 @@ pub(crate) fn init_in(major: u32, minor: u32, readahead: u32, flags: u32) -> [Fi
     ]
 }
 
+/// Reads the body of INTERRUPT: [`interrupt_in`].
+pub(crate) fn interrupt(body: &[u8]) -> Result<Request, BodyFault>
+    ensures { Gives plain result (read_body (layouts.interrupt) body.now) }
+{
+    let rest = after_fixed(body, 8)?;
+    ended(rest)?;
+    Ok(Request::Interrupt)
+}
+
 /// `struct fuse_interrupt_in`: unique.
 pub(crate) fn interrupt_in() -> [Field; 1]
     ensures { fields_of result ≡ layouts.interrupt_in }
 {
     [Field::Long(0)]
+}
+
+/// Reads the body of DESTROY, which is empty.
+pub(crate) fn destroy(body: &[u8]) -> Result<Request, BodyFault>
+    ensures { Gives plain result (read_body (layouts.destroy) body.now) }
+{
+    let rest = after_fixed(body, 0)?;
+    ended(rest)?;
+    Ok(Request::Destroy)
+}
+
+/// Reads the body of BATCH_FORGET: [`batch_forget_in`] and as many pairs as its count tells.
+pub(crate) fn batch_forget(alloc: Global, body: &[u8]) -> Result<Request, BodyFault>
+    ensures { Gives plain result (read_body (layouts.batch_forget) body.now) }
+{
+    let rest = after_fixed(body, 8)?;
+    let pairs = last_pairs(alloc, rest, u32_at(body, 0) as usize)?;
+    Ok(Request::BatchForget { pairs })
 }
 
 /// `struct fuse_batch_forget_in`: count, padding.

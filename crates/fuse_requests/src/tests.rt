@@ -82,8 +82,54 @@ fn fault_of(
     Ok(read_request(alloc, &frame).err())
 }
 
-/// That the request is written as this opcode, node and body, and read back from them, and which faults a body
-/// of one byte less and one of one byte more have.
+/// That the request is written as this frame.
+fn is_written(rt: &impl Abort, alloc: Global, request: &Request, frame: &[u8]) -> Result<(), Fail> {
+    assert!(rt; is_writable(request));
+    let written = write_request(alloc, UNIQUE, request)?;
+    assert_eq!(rt; written.as_slice(), frame);
+    Ok(())
+}
+
+/// That the request is read from this frame.
+fn is_read(rt: &impl Abort, alloc: Global, request: &Request, frame: &[u8]) -> Result<(), Fail> {
+    assert!(rt; whole_frame(frame));
+    let read = read_request(alloc, frame)?;
+    let read = format!(in alloc; "{read:?}")?;
+    let meant = format!(in alloc; "{request:?}")?;
+    assert_eq!(rt; read.as_str(), meant.as_str());
+    Ok(())
+}
+
+/// Which fault the body has when its last byte is away; none where it is read, or is empty as it stands.
+fn short_fault(
+    rt: &impl Abort,
+    alloc: Global,
+    opcode: u32,
+    body: &[u8],
+) -> Result<Option<BodyFault>, Fail>
+    requires { length body.now ≤ 500 }
+{
+    match body {
+        [front @ .., _] => fault_of(rt, alloc, opcode, front),
+        [] => Ok(None),
+    }
+}
+
+/// Which fault the body has with a further byte; none where it is read.
+fn long_fault(
+    rt: &impl Abort,
+    alloc: Global,
+    opcode: u32,
+    body: &[u8],
+) -> Result<Option<BodyFault>, Fail>
+    requires { length body.now ≤ 500 }
+{
+    let mut longer = Vec::from_slice(alloc, body)?;
+    longer.push(7)?;
+    fault_of(rt, alloc, opcode, &longer)
+}
+
+/// That the request is written as this opcode, node and body, and read back from them.
 fn both_ways(
     rt: &impl Abort,
     alloc: Global,
@@ -91,27 +137,12 @@ fn both_ways(
     opcode: u32,
     node: u64,
     body: &[u8],
-    short: Option<BodyFault>,
-    long: Option<BodyFault>,
 ) -> Result<(), Fail>
     requires { length body.now ≤ 500 }
 {
-    assert!(rt; is_writable(request));
     let frame = framed(alloc, opcode, node, body)?;
-    let written = write_request(alloc, UNIQUE, request)?;
-    assert_eq!(rt; written.as_slice(), frame.as_slice());
-    assert!(rt; whole_frame(&frame));
-    let read = read_request(alloc, &frame)?;
-    let read = format!(in alloc; "{read:?}")?;
-    let meant = format!(in alloc; "{request:?}")?;
-    assert_eq!(rt; read.as_str(), meant.as_str());
-    if let [front @ .., _] = body {
-        assert_eq!(rt; fault_of(rt, alloc, opcode, front)?, short);
-    }
-    let mut longer = Vec::from_slice(alloc, body)?;
-    longer.push(7)?;
-    assert_eq!(rt; fault_of(rt, alloc, opcode, &longer)?, long);
-    Ok(())
+    is_written(rt, alloc, request, &frame)?;
+    is_read(rt, alloc, request, &frame)
 }
 
 /// Whether a small request can be written.
@@ -169,7 +200,7 @@ fn small(request: &Request) -> bool
     }
 }
 
-/// A request whose body ends with a name.
+/// The same of a request of a node, whose body ends with a name.
 fn named(
     rt: &impl Abort,
     alloc: Global,
@@ -179,19 +210,15 @@ fn named(
 ) -> Result<(), Fail>
     requires { length body.now ≤ 500 }
 {
-    both_ways(
-        rt,
-        alloc,
-        request,
-        opcode,
-        NODE,
-        body,
-        Some(BodyFault::NoZeroByte),
-        Some(BodyFault::LongTail),
-    )
+    both_ways(rt, alloc, request, opcode, NODE, body)?;
+    let short = short_fault(rt, alloc, opcode, body)?;
+    assert!(rt; matches!(short, Some(BodyFault::NoZeroByte)));
+    let long = long_fault(rt, alloc, opcode, body)?;
+    assert!(rt; matches!(long, Some(BodyFault::LongTail)));
+    Ok(())
 }
 
-/// A request of a node whose body has no part of an open length.
+/// The same of a request of a node, whose body ends at a told place.
 fn fixed(
     rt: &impl Abort,
     alloc: Global,
@@ -201,16 +228,12 @@ fn fixed(
 ) -> Result<(), Fail>
     requires { length body.now ≤ 500 }
 {
-    both_ways(
-        rt,
-        alloc,
-        request,
-        opcode,
-        NODE,
-        body,
-        Some(BodyFault::Short),
-        Some(BodyFault::LongTail),
-    )
+    both_ways(rt, alloc, request, opcode, NODE, body)?;
+    let short = short_fault(rt, alloc, opcode, body)?;
+    assert!(rt; body.is_empty() || matches!(short, Some(BodyFault::Short)));
+    let long = long_fault(rt, alloc, opcode, body)?;
+    assert!(rt; matches!(long, Some(BodyFault::LongTail)));
+    Ok(())
 }
 
 #[test]
@@ -426,45 +449,52 @@ fn requests_that_end_a_handle_have_the_kernel_s_layouts(rt: HostRuntime) -> Resu
 #[test]
 fn requests_of_the_mount_name_no_node(rt: HostRuntime) -> Result<(), Fail> {
     let alloc = rt.alloc();
-    let long = Some(BodyFault::LongTail);
-    both_ways(&rt, alloc, &Request::Statfs, 17, 0, b"", None, long)?;
-    both_ways(&rt, alloc, &Request::Destroy, 38, 0, b"", None, long)?;
-    both_ways(
-        &rt,
-        alloc,
-        &Request::Interrupt,
-        36,
-        0,
-        &[0; 8],
-        Some(BodyFault::Short),
-        long,
-    )?;
+    both_ways(&rt, alloc, &Request::Statfs, 17, 0, b"")?;
+    both_ways(&rt, alloc, &Request::Destroy, 38, 0, b"")?;
+    both_ways(&rt, alloc, &Request::Interrupt, 36, 0, &[0; 8])?;
     let init = Request::Init {
         major: 0x3332_3130,
         minor: 0x3736_3534,
         readahead: 0x4342_4140,
         flags: 0x4746_4544,
     };
-    both_ways(
-        &rt,
-        alloc,
-        &init,
-        26,
-        0,
-        b"01234567@ABCDEFG",
-        Some(BodyFault::Short),
-        None,
-    )?;
-    both_ways(
-        &rt,
-        alloc,
-        &Request::Unknown { opcode: 44 },
-        44,
-        0,
-        b"",
-        None,
-        None,
-    )?;
+    both_ways(&rt, alloc, &init, 26, 0, b"01234567@ABCDEFG")?;
+    both_ways(&rt, alloc, &Request::Unknown { opcode: 44 }, 44, 0, b"")
+}
+
+#[test]
+fn bodies_of_the_mount_s_requests_have_their_length(rt: HostRuntime) -> Result<(), Fail> {
+    let alloc = rt.alloc();
+    assert_eq!(rt; long_fault(&rt, alloc, 17, b"")?, Some(BodyFault::LongTail));
+    assert_eq!(rt; long_fault(&rt, alloc, 38, b"")?, Some(BodyFault::LongTail));
+    assert_eq!(rt;
+        short_fault(&rt, alloc, 36, &[0; 8])?,
+        Some(BodyFault::Short)
+    );
+    assert_eq!(rt;
+        long_fault(&rt, alloc, 36, &[0; 8])?,
+        Some(BodyFault::LongTail)
+    );
+    assert_eq!(rt;
+        short_fault(&rt, alloc, 26, &[0; 16])?,
+        Some(BodyFault::Short)
+    );
+    assert_eq!(rt; long_fault(&rt, alloc, 26, &[0; 16])?, None);
+    Ok(())
+}
+
+/// Two pairs.
+const TWO_PAIRS: [u8; 40] = [
+    2, 0, 0, 0, 0, 0, 0, 0, // count, padding
+    0x30, 0x31, 0x32, 0x33, 0x34, 0x35, 0x36, 0x37, // node
+    0x40, 0x41, 0x42, 0x43, 0x44, 0x45, 0x46, 0x47, // nlookup
+    5, 0, 0, 0, 0, 0, 0, 0, // node
+    6, 0, 0, 0, 0, 0, 0, 0, // nlookup
+];
+
+#[test]
+fn pairs_stand_one_after_the_other(rt: HostRuntime) -> Result<(), Fail> {
+    let alloc = rt.alloc();
     let mut pairs = Row::new(alloc);
     pairs.reserve(2)?;
     pairs.push(Forgotten {
@@ -472,18 +502,31 @@ fn requests_of_the_mount_name_no_node(rt: HostRuntime) -> Result<(), Fail> {
         count: 0x4746_4544_4342_4140,
     });
     pairs.push(Forgotten { node: 5, count: 6 });
-    let body = b"\x02\0\0\0\0\0\0\001234567@ABCDEFG\x05\0\0\0\0\0\0\0\x06\0\0\0\0\0\0\0";
-    let count = Some(BodyFault::BadCount);
     both_ways(
         &rt,
         alloc,
         &Request::BatchForget { pairs },
         42,
         0,
-        body,
-        count,
-        count,
-    )
+        &TWO_PAIRS,
+    )?;
+    assert_eq!(rt;
+        short_fault(&rt, alloc, 42, &TWO_PAIRS)?,
+        Some(BodyFault::BadCount)
+    );
+    assert_eq!(rt;
+        long_fault(&rt, alloc, 42, &TWO_PAIRS)?,
+        Some(BodyFault::BadCount)
+    );
+    assert_eq!(rt;
+        fault_of(&rt, alloc, 42, &TWO_PAIRS[..24])?,
+        Some(BodyFault::BadCount)
+    );
+    assert_eq!(rt;
+        fault_of(&rt, alloc, 42, &TWO_PAIRS[..4])?,
+        Some(BodyFault::Short)
+    );
+    Ok(())
 }
 
 #[test]
@@ -518,15 +561,6 @@ fn the_first_fault_is_told(rt: HostRuntime) -> Result<(), Fail> {
     assert_eq!(rt;
         fault_of(&rt, alloc, 12, b"01234567old\0new")?,
         Some(BodyFault::NoZeroByte)
-    );
-    let one_of_two = b"\x02\0\0\0\0\0\0\001234567@ABCDEFG";
-    assert_eq!(rt;
-        fault_of(&rt, alloc, 42, one_of_two)?,
-        Some(BodyFault::BadCount)
-    );
-    assert_eq!(rt;
-        fault_of(&rt, alloc, 42, b"\x02\0\0\0")?,
-        Some(BodyFault::Short)
     );
     assert_eq!(rt; fault_of(&rt, alloc, 16, &READ)?, Some(BodyFault::Short));
     assert_eq!(rt; fault_of(&rt, alloc, 44, b"anything")?, None);
