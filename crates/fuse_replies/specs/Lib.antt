@@ -1,0 +1,3 @@
+-- The words that the contracts of `fuse_replies` cite.
+pub mod Layouts
+pub mod Replies

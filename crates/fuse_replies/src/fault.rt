@@ -1,0 +1,21 @@
+ghost use Rattle.std.specs.Prelude.{◌≡◌};
+ghost use Rattle.fuse_replies.specs.declared.fault.ReplyFault.TheVariants as faults;
+
+use io_ports::NoMemory;
+
+/// Why bytes were not read as a reply.
+#[derive(Clone, Copy, Debug, PartialEq, Eq)]
+pub enum ReplyFault {
+    /// Memory for the reply was refused.
+    NoMemory,
+    /// The bytes are no reply of the kind that was asked for.
+    Malformed,
+}
+
+impl From<NoMemory> for ReplyFault {
+    ghost from_gives = { λ _ fault. fault ≡ faults.NoMemory };
+
+    fn from(_refused: NoMemory) -> ReplyFault {
+        ReplyFault::NoMemory
+    }
+}

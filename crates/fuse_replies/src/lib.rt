@@ -1,0 +1,13 @@
+//! Replies of the FUSE kernel protocol 7.31 as values, and their frames, written and read.
+#![tactic(auto)]
+
+mod bodies;
+mod dirents;
+mod fault;
+mod fields;
+mod reply;
+mod write;
+
+pub use fault::ReplyFault;
+pub use reply::{AttrOut, Dirent, EntryOut, Reply, ReplyKind};
+pub use write::write_reply;
