@@ -2,10 +2,9 @@
 use Rattle.std.proofs.Common.{◌≡◌, ◌≤◌, ◌<◌, ◌+◌, ℕ, Bool, true, false, List, [], ◌∷◌, ◌++◌, length, refl, arith}
 use Rattle.std.proofs.lemmas.List.{length-append}
 use Rattle.fuse_head.specs.Head.{out_head}
-use Rattle.fuse_head.proofs.HeadLemmas.{length-out_head}
 use Rattle.fuse_replies.specs.declared.reply.Reply.{Reply}
 use Rattle.fuse_replies.specs.declared.reply.Reply.TheVariants.{Error, Entry, Attr, Created, Opened, Content, Target, Written, Stat, Dirents, InitDone, Empty, Silent}
-use Rattle.fuse_replies.specs.Layouts.{attr_out_text, dirents_text, entry_text, init_text, open_text, statfs_text, waits_text, written_text}
+use Rattle.fuse_replies.specs.Layouts.{entry_text, open_text}
 use Rattle.fuse_replies.specs.Replies.{body_of, errno_of, frame_of, plain, IsSendable}
 use Rattle.fuse_replies.proofs.TextLemmas.{length-attr_out_text, length-entry_text, length-init_text, length-open_text, length-statfs_text, length-waits_text, length-written_text}
 

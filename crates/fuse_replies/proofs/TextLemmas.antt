@@ -1,5 +1,5 @@
 -- How long the texts are.
-use Rattle.std.proofs.Common.{◌≡◌, ◌≤◌, ◌<◌, ◌+◌, ◌*◌, ℕ, List, [], ◌∷◌, ◌++◌, length, take, drop, get_or, replicate, refl, ap, sym, ◌∙◌, arith}
+use Rattle.std.proofs.Common.{◌≡◌, ◌≤◌, ◌<◌, ◌+◌, ◌*◌, ℕ, List, [], ◌∷◌, length, take, drop, get_or, ap, sym, ◌∙◌, arith}
 use Rattle.std.specs.List.{flat_map}
 use Rattle.std.proofs.lemmas.List.{length-append, length-replicate, take-append-drop, take_more}
 use Rattle.std.proofs.lemmas.List.Concat.{flat_map-append, flat_map-cons}
@@ -81,7 +81,7 @@ unfolding dirents_text
 dirent_within ds i d here =
     let f = dirent_text in
     let whole : length (flat_map f ds) ≡ length (flat_map f (take (i + 1) ds)) + length (flat_map f (drop (i + 1) ds)) =
-        ap (λ (xs : List Dirent). length (flat_map f xs)) (sym (take-append-drop (i + 1) ds)) ∙ ap length (flat_map-append f (take (i + 1) ds) (drop (i + 1) ds)) ∙ length-append (flat_map f (take (i + 1) ds)) (flat_map f (drop (i + 1) ds)) in
+    ap (λ (xs : List Dirent). length (flat_map f xs)) (sym (take-append-drop (i + 1) ds)) ∙ ap length (flat_map-append f (take (i + 1) ds) (drop (i + 1) ds)) ∙ length-append (flat_map f (take (i + 1) ds)) (flat_map f (drop (i + 1) ds)) in
     omega (arith, length-dirents_more ds i d here, whole)
 
 pub ruleset dirent_lengths = (length-dirent_text)

@@ -1,7 +1,7 @@
 -- The bodies of replies, after the structs of Linux fuse.h (protocol 7.31): fuse_attr, fuse_entry_out,
 -- fuse_attr_out, fuse_open_out, fuse_write_out, fuse_kstatfs, fuse_init_out and fuse_dirent. Fields stand in the
 -- structs' order, little-endian and with no gaps.
-use Rattle.std.specs.Prelude.{ℕ, ◌-◌, ◌%◌, Bool, true, false, List, [], ◌∷◌, ◌++◌, length, replicate}
+use Rattle.std.specs.Prelude.{ℕ, ◌-◌, ◌%◌, List, [], ◌∷◌, ◌++◌, length, replicate}
 use Rattle.std.specs.Int.{div_ceil}
 use Rattle.std.specs.List.{flat_map}
 use Rattle.fuse_head.specs.Little.{u16_bytes, u32_bytes, u64_bytes}

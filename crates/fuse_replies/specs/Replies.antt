@@ -1,8 +1,9 @@
 -- What replies are, and the one text of each.
-use Rattle.std.specs.Prelude.{◌≡◌, ◌≤◌, ◌<◌, ◌+◌, ◌^◌, ℕ, Bool, true, false, IsTrue, List, [], ◌∷◌, ◌++◌, length, All}
+use Rattle.std.specs.Prelude.{◌≡◌, ◌≤◌, ◌<◌, ◌+◌, ◌^◌, ℕ, true, false, IsTrue, List, [], ◌++◌, length, All, Result, Ok, Err}
 use Rattle.std.specs.Str.{IsUtf8}
-use Rattle.io_ports.specs.RowItems.{RowItems}
 use Rattle.fuse_head.specs.Head.{out_head}
+use Rattle.fuse_replies.specs.declared.fault.ReplyFault.{ReplyFault}
+use Rattle.fuse_replies.specs.declared.fault.ReplyFault.TheVariants as faults
 use Rattle.fuse_replies.specs.declared.reply.AttrOut.{AttrOut}
 use Rattle.fuse_replies.specs.declared.reply.EntryOut.{EntryOut}
 use Rattle.fuse_replies.specs.declared.reply.Dirent.{Dirent}
@@ -68,9 +69,10 @@ pub record IsEntry (e : EntryOut) : Type 0 where
   pub node : e.node < 2 ^ 64
   pub attr : IsAttr e.attr
 
--- the same of a dirent, and its name is UTF-8
+-- the same of a dirent and of its name's length, and the name is UTF-8
 pub record IsDirent (d : Dirent) : Type 0 where
   pub off : d.off < 2 ^ 64
+  pub namelen : length d.name < 2 ^ 32
   pub kind : d.kind < 2 ^ 32
   pub name : IsUtf8 d.name
 
@@ -105,3 +107,16 @@ IsOfKind kind (Dirents row) = kind ≡ kinds.Dirents
 IsOfKind kind (InitDone readahead flags waits) = kind ≡ kinds.InitDone
 IsOfKind kind Empty = kind ≡ kinds.Empty
 IsOfKind kind Silent = ⊥
+
+-- the bytes are the frame of a well-formed reply, with this unique, to a request of this kind
+pub record IsFrame (kind : ReplyKind) (unique : ℕ) (reply : Reply) (bytes : List ℕ) : Type 0 where
+  pub unique_fits : unique < 2 ^ 64
+  pub reply_fits : IsReply reply
+  pub answers : IsOfKind kind reply
+  pub text : bytes ≡ frame_of unique reply
+
+-- what was read is this unique and this reply, unless memory was refused
+abbrev pub GivesBack : ℕ → Reply → Result (ℕ × Reply) ReplyFault → Type 0
+GivesBack unique reply (Ok read) = (read.0 ≡ unique) × (plain read.1 ≡ plain reply)
+GivesBack unique reply (Err faults.NoMemory) = Unit {0}
+GivesBack unique reply (Err faults.Malformed) = ⊥

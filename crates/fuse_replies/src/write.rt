@@ -94,7 +94,9 @@ fn put_body(out: &mut Vec<u8>, reply: &Reply) -> Result<(), AllocError>
         Reply::Dirents(dirents) => put_dirents(out, dirents.as_slice()),
         Reply::InitDone { waits: true, .. } => put_waits(out),
         Reply::InitDone {
-            readahead, flags, ..
+            readahead,
+            flags,
+            ..
         } => put_init(out, *readahead, *flags),
     }
 }

@@ -1,5 +1,5 @@
 -- A dirent is no longer than all of them together.
-use Rattle.std.proofs.Common.{◌≡◌, ◌≤◌, ◌+◌, length, take, get_or, refl, ap, arith}
+use Rattle.std.proofs.Common.{length, refl, ap, arith}
 use Rattle.fuse_replies.specs.declared.reply.Dirent.{Dirent}
 use Rattle.fuse_replies.specs.Layouts.{dirent_text, dirents_text}
 use Rattle.fuse_replies.proofs.TextLemmas.{dirent_within, length-dirents_more}

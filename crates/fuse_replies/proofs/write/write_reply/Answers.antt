@@ -1,5 +1,5 @@
 -- The frame of a reply that isn't silent is its head and its body.
-use Rattle.std.proofs.Common.{◌≡◌, ◌+◌, ◌++◌, [], length, refl, sym, ap, ◌∙◌, arith}
+use Rattle.std.proofs.Common.{◌≡◌, ◌+◌, ◌++◌, length, refl, sym, ap, ◌∙◌, arith}
 use Rattle.fuse_head.specs.Head.{out_head}
 use Rattle.fuse_replies.specs.declared.reply.Reply.{Reply}
 use Rattle.fuse_replies.specs.Replies.{body_of, errno_of, frame_of, plain}
@@ -9,7 +9,7 @@ use Rattle.fuse_replies.proofs.write.write_reply.Goals as goal
 pub returns-in-Silent : goal.returns-in-Silent
 returns-in-Silent c = record {
   ok = c.from_vec.ensures.bytes ∙ c.new.ensures.items
-    ∙ sym (ap (λ (reply : Reply). frame_of c.args.unique (plain reply)) c.in-Silent.is ∙ frame_of-silent c.args.unique)
+      ∙ sym (ap (λ (reply : Reply). frame_of c.args.unique (plain reply)) c.in-Silent.is ∙ frame_of-silent c.args.unique);
 }
 
 pub overflow_add-len : goal.overflow_add-len
@@ -19,6 +19,6 @@ pub returns : goal.returns
 returns c =
     let reply = plain c.args.reply.now in
     let head : c.put_head.new.out.items ≡ out_head (16 + length (body_of reply)) (errno_of reply) c.args.unique =
-        rw (c.in_ok-put_head.ensures.ok, c.in_ok-out.ensures.items, c.body_len-len.ensures, c.errno.ensures) refl in
+    rw (c.in_ok-put_head.ensures.ok, c.in_ok-out.ensures.items, c.body_len-len.ensures, c.errno.ensures) refl in
     let sent = frame_of-sent c.args.unique reply (plain-silent c.args.reply.now c.in_default.not-Silent) in
     record { ok = c.from_vec-2.ensures.bytes ∙ c.in_ok-put_body.ensures.ok ∙ ap (λ bytes. bytes ++ body_of reply) head ∙ sym sent }
