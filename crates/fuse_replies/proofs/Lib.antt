@@ -1,2 +1,7 @@
 pub mod TextLemmas
 pub mod ReplyLemmas
+pub mod StripLemmas
+pub mod ReadLemmas
+pub mod DirentLemmas
+pub mod BodyLemmas
+pub mod HeadReads

@@ -58,7 +58,7 @@ init_text readahead flags =
 
 -- the same where the kernel's major version was above 7: it is told 7.31, and begins anew
 unfoldable pub waits_text : List ℕ
-waits_text = u32s (7 ∷ 31 ∷ []) ++ u32s (replicate 14 0)
+waits_text = u32s (7 ∷ 31 ∷ replicate 14 0)
 
 -- how many zero bytes bring n to a multiple of 8
 abbrev pub padding_of : ℕ → ℕ

@@ -1,3 +1,4 @@
 -- The words that the contracts of `fuse_replies` cite.
 pub mod Layouts
 pub mod Replies
+pub mod Reading

@@ -118,5 +118,4 @@ pub record IsFrame (kind : ReplyKind) (unique : ℕ) (reply : Reply) (bytes : Li
 -- what was read is this unique and this reply, unless memory was refused
 abbrev pub GivesBack : ℕ → Reply → Result (ℕ × Reply) ReplyFault → Type 0
 GivesBack unique reply (Ok read) = (read.0 ≡ unique) × (plain read.1 ≡ plain reply)
-GivesBack unique reply (Err faults.NoMemory) = Unit {0}
-GivesBack unique reply (Err faults.Malformed) = ⊥
+GivesBack unique reply (Err fault) = fault ≡ faults.NoMemory

@@ -2,6 +2,7 @@ ghost use Rattle.std.specs.Prelude.{◌≡◌};
 ghost use Rattle.fuse_replies.specs.declared.fault.ReplyFault.TheVariants as faults;
 
 use io_ports::NoMemory;
+use std::alloc::AllocFailed;
 
 /// Why bytes were not read as a reply.
 #[derive(Clone, Copy, Debug, PartialEq, Eq)]
@@ -16,6 +17,14 @@ impl From<NoMemory> for ReplyFault {
     ghost from_gives = { λ _ fault. fault ≡ faults.NoMemory };
 
     fn from(_refused: NoMemory) -> ReplyFault {
+        ReplyFault::NoMemory
+    }
+}
+
+impl<T: Drop> From<AllocFailed<T>> for ReplyFault {
+    ghost from_gives = { λ _ fault. fault ≡ faults.NoMemory };
+
+    fn from(_refused: AllocFailed<T>) -> ReplyFault {
         ReplyFault::NoMemory
     }
 }

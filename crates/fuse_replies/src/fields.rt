@@ -1,5 +1,6 @@
-ghost use Rattle.std.specs.Prelude.{◌≡◌, ◌++◌, OnOk};
+ghost use Rattle.std.specs.Prelude.{◌≡◌, ◌++◌, ◌↔◌, OnOk, IsTrue};
 ghost use Rattle.fuse_replies.specs.Layouts.{u16s, u32s, u64s};
+ghost use Rattle.fuse_replies.specs.Reading.{Strips};
 
 use std::alloc::AllocError;
 
@@ -34,4 +35,50 @@ pub(crate) fn put_u64s(out: &mut Vec<u8>, fields: &[u64]) -> Result<(), AllocErr
         out.extend_from_slice(&field.to_le_bytes())?;
     }
     Ok(())
+}
+
+/// What follows these fields of two bytes, where `bytes` begin with them.
+pub(crate) fn strip_u16s<'a>(bytes: &'a [u8], fields: &[u16]) -> Option<&'a [u8]>
+    ensures { Strips bytes.now (u16s fields.now) result }
+{
+    let mut rest = bytes;
+    for field in fields {
+        rest = rest.strip_prefix(&field.to_le_bytes())?;
+    }
+    Some(rest)
+}
+
+/// What follows these fields of four bytes, where `bytes` begin with them.
+pub(crate) fn strip_u32s<'a>(bytes: &'a [u8], fields: &[u32]) -> Option<&'a [u8]>
+    ensures { Strips bytes.now (u32s fields.now) result }
+{
+    let mut rest = bytes;
+    for field in fields {
+        rest = rest.strip_prefix(&field.to_le_bytes())?;
+    }
+    Some(rest)
+}
+
+/// What follows these fields of eight bytes, where `bytes` begin with them.
+pub(crate) fn strip_u64s<'a>(bytes: &'a [u8], fields: &[u64]) -> Option<&'a [u8]>
+    ensures { Strips bytes.now (u64s fields.now) result }
+{
+    let mut rest = bytes;
+    for field in fields {
+        rest = rest.strip_prefix(&field.to_le_bytes())?;
+    }
+    Some(rest)
+}
+
+/// Whether `bytes` are these fields of eight bytes and then these of four, and nothing else.
+pub(crate) fn are_fields(bytes: &[u8], wide: &[u64], narrow: &[u32]) -> bool
+    ensures { IsTrue result ↔ (bytes.now ≡ u64s wide.now ++ u32s narrow.now) }
+{
+    let Some(rest) = strip_u64s(bytes, wide) else {
+        return false;
+    };
+    let Some(rest) = strip_u32s(rest, narrow) else {
+        return false;
+    };
+    rest.is_empty()
 }

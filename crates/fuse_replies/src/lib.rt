@@ -5,9 +5,12 @@ mod bodies;
 mod dirents;
 mod fault;
 mod fields;
+mod init;
+mod read;
 mod reply;
 mod write;
 
 pub use fault::ReplyFault;
+pub use read::read_reply;
 pub use reply::{AttrOut, Dirent, EntryOut, Reply, ReplyKind};
 pub use write::write_reply;

@@ -2,10 +2,9 @@ ghost use Rattle.std.specs.Prelude.{◌≡◌, ◌+◌, ◌++◌, length, IfOk, 
 ghost use Rattle.fuse_head.specs.Head.{out_head};
 ghost use Rattle.fuse_replies.specs.Replies.{body_of, errno_of, frame_of, plain, IsSendable};
 
-use crate::bodies::{
-    put_attr_out, put_entry, put_init, put_open, put_statfs, put_waits, put_written,
-};
+use crate::bodies::{put_attr_out, put_entry, put_open, put_statfs, put_written};
 use crate::dirents::{dirents_len, put_dirents};
+use crate::init::{put_init, put_waits};
 use crate::reply::Reply;
 use fuse_head::write_out_head;
 use io_ports::{Bytes, NoMemory};

@@ -1,0 +1,8 @@
+-- The bytes are the fields so far and the rest.
+use Rattle.std.proofs.Common.{◌≡◌, ◌++◌, take}
+use Rattle.std.specs.List.{flat_map}
+use Rattle.fuse_head.specs.Little.{u64_bytes}
+use Rattle.fuse_replies.proofs.fields.strip_u64s.Given as goal
+
+abbrev pub invariant-loop-field : goal.invariant-loop-field
+invariant-loop-field l = l.initial.rest ≡ flat_map u64_bytes (take l.field-index l.fields) ++ l.rest
