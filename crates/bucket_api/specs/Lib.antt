@@ -1,0 +1,10 @@
+pub mod BucketState
+pub mod BucketStep
+pub mod Listing
+pub mod Log
+pub mod LogEvent
+pub mod Metadata
+pub mod Names
+pub mod Operation
+pub mod PageData
+pub mod Pages

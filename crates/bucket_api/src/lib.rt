@@ -1,0 +1,16 @@
+//! What a bucket of whole objects is asked and answers, for everything that stands over a bucket.
+#![tactic(auto)]
+
+mod answers;
+mod events;
+mod names;
+mod objects;
+mod operations;
+mod pages;
+
+pub use answers::Answer;
+pub use events::{Event, Mode};
+pub use names::allowed;
+pub use objects::{Meta, Object, Pair, copy_pairs};
+pub use operations::Op;
+pub use pages::Page;
