@@ -1,7 +1,8 @@
 -- A bucket as plain data: its live objects by name, and the last generation that it gave.
-use Rattle.std.specs.Prelude.{◌≡◌, ℕ, ◌^◌, ◌<◌, ◌≤◌, ◌-◌, List, [], length, Option, IfSome, ◌==◌}
+use Rattle.std.specs.Prelude.{◌≡◌, ℕ, ◌^◌, ◌<◌, ◌≤◌, ◌-◌, List, [], length, Option, ◌==◌}
 use Rattle.std.specs.Option.{option_map_or, option_and_then}
 use Rattle.std.specs.Prelude.{Some, None, if◌then◌else◌}
+use Rattle.std.specs.List.{AllByRecursion}
 use Rattle.std.specs.Map.{lookup, keys_of}
 use Rattle.std.specs.BTreeMap.{is_at}
 use Rattle.std.specs.List.Sorted.{IsStrictlySortedBy}
@@ -48,7 +49,7 @@ pub record IsStored (last : ℕ) (name : List ℕ) (o : Object) : Type 0 where
 -- names rise, so none stands twice, and each object may stand under its name
 pub record IsBucket (b : BucketState) : Type 0 where
   pub ordered : IsStrictlySortedBy text_cmp (keys_of b.entries)
-  pub stored : (name : List ℕ) → IfSome (object_at b name) (IsStored b.last name)
+  pub stored : AllByRecursion (λ e. IsStored b.last e.0 e.1) b.entries
 
 -- one more generation, and one more metageneration of any object, are still 64-bit numbers
 pub record HasRoom (b : BucketState) : Type 0 where

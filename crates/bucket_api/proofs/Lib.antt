@@ -1,0 +1,3 @@
+pub mod BucketLaws
+pub mod PairLaws
+pub mod TextOrder
