@@ -1,0 +1,7 @@
+pub mod DigitLemmas
+pub mod DateLemmas
+pub mod MomentLemmas
+pub mod StepLemmas
+pub mod PartLemmas
+pub mod ZoneLemmas
+pub mod GrammarLemmas
