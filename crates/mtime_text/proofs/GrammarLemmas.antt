@@ -1,5 +1,5 @@
 -- What is read is on the grammar, what is on the grammar is read, and what is printed is on it.
-use Rattle.std.proofs.Common.{◌≡◌, ℕ, zero, suc, ◌+◌, ◌-◌, ◌*◌, ◌/◌, ◌%◌, ◌^◌, ◌<◌, ◌≤◌, ◌⊎◌, inl, inr, Bool, true, false, ◌&&◌, ◌||◌, ◌==◌, Option, Some, None, List, [], ◌∷◌, ◌++◌, refl, sym, ap, subst, ◌∙◌, append_assoc, arith, ℤ, pos, negsuc, neg_ℤ, ◌+ℤ◌, ◌-ℤ◌, ◌*ℤ◌, ◌≤ℤ◌, unsigned_abs}
+use Rattle.std.proofs.Common.{◌≡◌, ℕ, ◌+◌, ◌*◌, ◌/◌, ◌%◌, ◌<◌, ◌≤◌, ◌⊎◌, inl, inr, true, ◌&&◌, Some, List, [], ◌∷◌, ◌++◌, refl, ap, ◌∙◌, append_assoc, arith, ℤ, pos, negsuc, ◌+ℤ◌, ◌-ℤ◌, ◌*ℤ◌, ◌≤ℤ◌, unsigned_abs}
 use Rattle.std.specs.Prelude.{int_le}
 use Rattle.std.proofs.lemmas.Option.{cond_some}
 use Rattle.std.proofs.lemmas.Int.{ints}
@@ -15,7 +15,7 @@ use Rattle.mtime_text.proofs.DigitLemmas.{both}
 use Rattle.mtime_text.proofs.MomentLemmas.{printed_day}
 use Rattle.mtime_text.proofs.StepLemmas.{bind_some, after_takes}
 use Rattle.mtime_text.proofs.PartLemmas.{date_takes, date_again, clock_takes, clock_again}
-use Rattle.mtime_text.proofs.ZoneLemmas.{fraction_takes, fraction_again, offset_takes, offset_again, BeginsOffset, begins_offset}
+use Rattle.mtime_text.proofs.ZoneLemmas.{fraction_takes, fraction_again, offset_takes, offset_again, begins_offset}
 
 -- ---- what is read is on the grammar
 

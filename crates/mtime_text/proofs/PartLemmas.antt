@@ -1,18 +1,21 @@
 -- Each part that is read is spelled so, and each part that is spelled is read.
-use Rattle.std.proofs.Common.{◌≡◌, ℕ, zero, suc, ◌+◌, ◌-◌, ◌*◌, ◌^◌, ◌<◌, ◌≤◌, ◌⊎◌, inl, inr, Bool, true, false, ◌&&◌, ◌||◌, ◌==◌, cond, nat_lt, nat_le, Option, Some, None, List, [], ◌∷◌, ◌++◌, length, refl, sym, ap, subst, ◌∙◌, append_assoc, arith, ℤ, pos, neg_ℤ}
-use Rattle.std.specs.Prelude.{option_map}
+use Rattle.std.proofs.Common.{◌≡◌, ℕ, ◌+◌, ◌*◌, ◌^◌, ◌<◌, ◌&&◌, cond, nat_lt, Some, None, List, ◌∷◌, ◌++◌, ap, ◌∙◌, append_assoc, arith, ℤ, pos}
 use Rattle.std.proofs.lemmas.Option.{cond_some}
-use Rattle.jiff_core.specs.Calendar.{IsCivilDate, days_in_month, days_from_civil}
+use Rattle.jiff_core.specs.Calendar.{IsCivilDate, days_from_civil}
 use Rattle.jiff_core.proofs.CalendarLemmas.{days_in_month_bounds}
 use Rattle.jiff_core.proofs.SignedLemmas.{signed_arith}
-use Rattle.mtime_text.specs.Spelling.{dash, colon, dot, number, date_text, clock_text}
+use Rattle.mtime_text.specs.Spelling.{dash, colon, number, date_text, clock_text}
 use Rattle.mtime_text.specs.Reading.{◌>>=◌, number_at, number_after, is_date, date_at, clock_at}
 use Rattle.mtime_text.proofs.DigitLemmas.{both, number_takes, number_again}
 use Rattle.mtime_text.proofs.DateLemmas.{is_date-civil, civil-is_date}
-use Rattle.mtime_text.proofs.StepLemmas.{bind_some, some_is, below, is_below, number_after_takes, number_after_again}
+use Rattle.mtime_text.proofs.StepLemmas.{bind_some, below, is_below, number_after_takes, number_after_again}
 
 joined : (text x a y b z rest : List ℕ) → text ≡ x ++ a → a ≡ y ++ b → b ≡ z ++ rest → text ≡ (x ++ y ++ z) ++ rest
 joined text x a y b z rest h₀ h₁ h₂ = rw (h₀, h₁, h₂) (simp append_assoc)
+
+-- the same text, whose rest has another name
+pub with_rest : (text front a b : List ℕ) → text ≡ front ++ a → a ≡ b → text ≡ front ++ b
+with_rest text front a b h e = h ∙ ap (λ (bs : List ℕ). front ++ bs) e
 
 -- ---- dates
 
@@ -41,7 +44,7 @@ date_takes text read e =
       day = day.0;
       valid = is_date-civil year.0 month.0 day.0 (omega (arith, year_taken.below)) valid;
       number_is = ap (λ (p : ℤ × List ℕ). p.0) same;
-      parts = parts ∙ ap (λ (p : ℤ × List ℕ). date_text year.0 month.0 day.0 ++ p.1) same;
+      parts = with_rest text (date_text year.0 month.0 day.0) day.1 read.1 parts (ap (λ (p : ℤ × List ℕ). p.1) same);
     }
 
 pub date_again : (year month day : ℕ) (rest : List ℕ) → IsCivilDate (pos year) month day → date_at (date_text year month day ++ rest) ≡ Some (days_from_civil (pos year) month day, rest)
@@ -87,7 +90,7 @@ clock_takes text read e =
       minute_in = below minute.0 60 inner.0;
       second_in = below second.0 60 inner.1;
       seconds_are = ap (λ (p : ℕ × List ℕ). p.0) same;
-      parts = parts ∙ ap (λ (p : ℕ × List ℕ). clock_text hour.0 minute.0 second.0 ++ p.1) same;
+      parts = with_rest text (clock_text hour.0 minute.0 second.0) second.1 read.1 parts (ap (λ (p : ℕ × List ℕ). p.1) same);
     }
 
 pub clock_again : (hour minute second : ℕ) (rest : List ℕ) → hour < 24 → minute < 60 → second < 60 → clock_at (clock_text hour minute second ++ rest) ≡ Some (hour * 3600 + minute * 60 + second, rest)

@@ -1,6 +1,6 @@
 -- Which texts name a time, and which: RFC 3339 without leap seconds, with at most nine decimal places, from
 -- 1970-01-01T00:00:00Z on, and so long that a mount can show it.
-use Rattle.std.specs.Prelude.{◌≡◌, ℕ, zero, suc, ◌+◌, ◌-◌, ◌*◌, ◌^◌, ◌<◌, ◌≤◌, ◌⊎◌, List, ◌∷◌, ◌++◌, ℤ, pos, neg_ℤ, ◌+ℤ◌, ◌-ℤ◌, ◌*ℤ◌}
+use Rattle.std.specs.Prelude.{◌≡◌, ℕ, ◌+◌, ◌-◌, ◌*◌, ◌^◌, ◌<◌, ◌≤◌, ◌⊎◌, List, ◌∷◌, ◌++◌, ℤ, pos, neg_ℤ, ◌+ℤ◌, ◌-ℤ◌, ◌*ℤ◌}
 use Rattle.jiff_core.specs.Calendar.{IsCivilDate, days_from_civil}
 use Rattle.mtime_text.specs.Spelling.{capital_t, small_t, capital_z, small_z, Offset, zulu, ahead, behind, date_text, clock_text, fraction_text, offset_text}
 

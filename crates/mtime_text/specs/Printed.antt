@@ -1,5 +1,5 @@
 -- The text that is printed for a second and a nanosecond: in UTC, with nine decimals and `Z`.
-use Rattle.std.specs.Prelude.{ℕ, zero, suc, ◌+◌, ◌-◌, ◌/◌, ◌%◌, Bool, if◌then◌else◌, ℤ, pos, ◌-ℤ◌, unsigned_abs, int_le, List}
+use Rattle.std.specs.Prelude.{ℕ, zero, suc, ◌+◌, ◌/◌, ◌%◌, Bool, if◌then◌else◌, pos, ◌-ℤ◌, unsigned_abs, int_le, List}
 use Rattle.jiff_core.specs.Calendar.{days_from_civil}
 use Rattle.mtime_text.specs.Spelling.{capital_t, capital_z, zulu}
 use Rattle.mtime_text.specs.Grammar.{Parts, spelling}

@@ -26,7 +26,7 @@ fn are_digits(bytes: &[u8]) -> bool
 }
 
 /// The number that decimal digits write.
-pub(crate) fn value(digits: &[u8]) -> u32
+fn value(digits: &[u8]) -> u32
     requires width { length digits.now ≤ 9 }
     requires digits { IsTrue (list_all is_ascii_digit digits.now) }
     ensures value { result ≡ digits_value 10 digits.now }

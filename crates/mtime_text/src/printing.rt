@@ -1,4 +1,4 @@
-ghost use Rattle.std.specs.Prelude.{◌≡◌, ◌+◌, ◌*◌, ◌/◌, ◌%◌, ◌<◌, ◌≤◌, ◌≤ℤ◌, pos, unsigned_abs, [], ◌∷◌, ◌++◌, Some, OnOk, IfOk, string_bytes};
+ghost use Rattle.std.specs.Prelude.{◌≡◌, ◌/◌, ◌%◌, ◌<◌, ◌≤◌, ◌≤ℤ◌, pos, unsigned_abs, [], ◌∷◌, ◌++◌, Some, OnOk, IfOk, string_bytes};
 ghost use Rattle.mtime_text.specs.Spelling.{number, date_text, clock_text};
 ghost use Rattle.mtime_text.specs.Grammar.{last_second, IsMtimeText};
 ghost use Rattle.mtime_text.specs.Printed.{year_of, month_of, day_of, printed_text};

@@ -1,7 +1,6 @@
-ghost use Rattle.std.specs.Prelude.{ℕ, ◌≡◌, ◌&&◌, ◌+◌, ◌*◌, ◌^◌, ◌<◌, ◌≤◌, ◌+ℤ◌, ◌-ℤ◌, ◌*ℤ◌, pos, length, IsTrue, nat_lt, nat_le, None, Some, IfSome, option_map, option_copied, if◌then◌else◌};
-ghost use Rattle.std.specs.List.{prefix_len, list_all};
+ghost use Rattle.std.specs.Prelude.{ℕ, ◌≡◌, ◌+◌, ◌-◌, ◌*◌, ◌^◌, ◌<◌, ◌≤◌, ◌+ℤ◌, ◌-ℤ◌, ◌*ℤ◌, pos, length, None, Some, IfSome, option_map, option_copied, if◌then◌else◌};
+ghost use Rattle.std.specs.List.{prefix_len};
 ghost use Rattle.std.specs.Char.{is_ascii_digit};
-ghost use Rattle.std.specs.Str.Parse.{digits_value};
 ghost use Rattle.jiff_core.specs.Calendar.{days_from_civil, IsWithin, IsEpochDay};
 ghost use Rattle.mtime_text.specs.Grammar.{IsMtimeText};
 ghost use Rattle.mtime_text.specs.Reading.{after as after_passing, is_time_mark, is_date, date_at, clock_at, fraction_at, places_at, hours_at, offset_at, in_range, whole, mtime_of};
@@ -151,7 +150,17 @@ fn places(text: &[u8]) -> Option<(u32, &[u8])>
         return None;
     }
     let (fraction, rest) = number(text, places)?;
-    Some((fraction * 10u32.pow(9 - places as u32), rest))
+    Some((nanoseconds(fraction, places), rest))
+}
+
+/// The nanoseconds of a fraction of a second with so many decimal places.
+fn nanoseconds(fraction: u32, places: usize) -> u32
+    requires places { places ≤ 9 }
+    requires fraction { fraction < 10 ^ places }
+    ensures value { result ≡ fraction * 10 ^ (9 - places) }
+    ensures bound { result < 1_000_000_000 }
+{
+    fraction * 10u32.pow(9 - places as u32)
 }
 
 /// How many digits stand at the front.

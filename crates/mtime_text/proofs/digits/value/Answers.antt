@@ -1,5 +1,5 @@
-use Rattle.std.proofs.Common.{◌≡◌, ◌+◌, ◌-◌, ◌*◌, arith, get_or}
-use Rattle.mtime_text.proofs.DigitLemmas.{digit_more, power_below, all_at, digit_range}
+use Rattle.std.proofs.Common.{arith}
+use Rattle.mtime_text.proofs.DigitLemmas.{digit_more, power_below}
 use Rattle.mtime_text.proofs.digits.value.Goals as goal
 
 pub overflow_mul-value : goal.overflow_mul-value

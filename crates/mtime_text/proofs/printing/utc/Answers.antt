@@ -1,10 +1,7 @@
-use Rattle.std.proofs.Common.{◌≡◌, ◌+◌, ◌*◌, ◌/◌, ◌%◌, refl, sym, ◌∙◌, arith, ℤ, pos, ◌+ℤ◌, ◌*ℤ◌, to_z, w32, w64, Ok}
-use Rattle.std.specs.Prelude.{IfOk}
-use Rattle.std.proofs.lemmas.Int.{to_z_pos}
-use Rattle.jiff_core.specs.declared.timestamp.Timestamp.{Timestamp}
+use Rattle.std.proofs.Common.{◌≡◌, ◌+◌, ◌*◌, arith, pos}
 use Rattle.jiff_core.specs.DateTime.{civil_nanos}
-use Rattle.jiff_core.proofs.SignedLemmas.{signed_arith, signed_casts}
-use Rattle.mtime_text.proofs.MomentLemmas.{ShowsMoment, shows_moment, ShowsDate, shows_date}
+use Rattle.jiff_core.proofs.SignedLemmas.{signed_casts}
+use Rattle.mtime_text.proofs.MomentLemmas.{ShowsMoment, shows_moment, shows_date}
 use Rattle.mtime_text.proofs.printing.utc.Goals as goal
 
 shown : (c : goal.After-to_datetime) → ShowsMoment c.to_datetime.result c.args.seconds

@@ -1,4 +1,4 @@
-use Rattle.std.proofs.Common.{◌≡◌, refl, arith, ℤ, pos, to_z, of_z, w32}
+use Rattle.std.proofs.Common.{◌≡◌, refl, arith, pos, to_z, of_z, w32}
 use Rattle.std.specs.Int.{w8, w16}
 use Rattle.std.proofs.lemmas.Int.{to_z_pos}
 use Rattle.jiff_core.specs.Calendar.{IsDate}

@@ -1,4 +1,4 @@
-use Rattle.std.proofs.Common.{◌≡◌, ap, ◌∙◌}
+use Rattle.std.proofs.Common.{ap, ◌∙◌}
 use Rattle.mtime_text.specs.Reading.{mtime_of}
 use Rattle.mtime_text.proofs.GrammarLemmas.{time_again}
 use Rattle.mtime_text.proofs.reading.read.Goals as goal
