@@ -1,0 +1,4 @@
+pub mod Held
+pub mod Going
+pub mod Views
+pub mod Kept

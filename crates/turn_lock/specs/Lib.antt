@@ -1,0 +1,6 @@
+pub mod Numbers
+pub mod Book
+pub mod Seats
+pub mod Rule
+pub mod Steps
+pub use Rattle.atomic_table.specs.Seated

@@ -1,0 +1,100 @@
+//! The steps on the table, each by a place at it.
+ghost use Rattle.std.specs.Prelude.{◌≡◌, ◌+◌, ◌^◌, ◌<◌, suc, true, false, length, slice_get, [], ◌∷◌, IsTrue, Some, None, MatchBool};
+ghost use Rattle.turn_lock.specs.declared.known.Numbers.TheVariants.{Only};
+ghost use Rattle.turn_lock.specs.Numbers.{has};
+ghost use Rattle.turn_lock.specs.Steps.{Enters, appended, giving, given};
+
+use crate::booked::Booked;
+use crate::known::Known;
+use crate::rule::{ByTheBook, Give, Given, Next, Take, Write};
+use crate::seat::Place;
+use atomic_table::Shared;
+use crossbeam_utils::Backoff;
+use std::snapshot::Snapshot;
+use std::sync::Wait;
+
+pub(crate) type Board<S> = Shared<Option<S>, Known<S, <S as Booked>::Entry>, Snapshot<S>, ByTheBook>;
+
+// The words of the table.
+pub(crate) const TURN: usize = 0;
+
+pub(crate) const LENGTH: usize = 1;
+
+// The one slot, which has the state.
+pub(crate) const STATE: usize = 0;
+
+// What the turn may be: free, taken, or taken while threads may sleep until it is free.
+pub(crate) const FREE: u64 = 0;
+
+const TAKEN: u64 = 1;
+
+pub(crate) const AWAITED: u64 = 2;
+
+// Tries once for the turn. A thread that is about to sleep marks it, so that who leaves wakes a sleeper.
+fn try_turn<S: Booked>(board: &Board<S>, place: &mut Place<S>, about_to_sleep: bool) -> bool
+    requires board { (place.old.table_id ≡ board.now.table_id) × (board.now.table_id.words ≡ 2) }
+    requires own { has place.old.me.0.held place.old.me.0.number ≡ true }
+    ensures kept { (place.new.table_id ≡ place.old.table_id) × (place.new.id ≡ place.old.id) }
+    ensures taken { MatchBool result (Enters S.entries S.home S.may_make place.old.me place.new.me) (place.new.me ≡ place.old.me) }
+{
+    if about_to_sleep {
+        return board.swap::<Take>(place, TURN, AWAITED) == FREE;
+    }
+    board.compare_exchange::<Take>(place, TURN, FREE, TAKEN) == FREE
+}
+
+// Waits for the turn: spins for a little, then yields, then sleeps until a thread leaves.
+pub(crate) fn take_turn<S: Booked, T: Wait>(rt: &T, board: &Board<S>, place: &mut Place<S>)
+    requires board { (place.old.table_id ≡ board.now.table_id) × (board.now.table_id.words ≡ 2) }
+    requires own { has place.old.me.0.held place.old.me.0.number ≡ true }
+    ensures kept { (place.new.table_id ≡ place.old.table_id) × (place.new.id ≡ place.old.id) }
+    ensures taken { Enters S.entries S.home S.may_make place.old.me place.new.me }
+{
+    let backoff = Backoff::new();
+    for _ in rt.forever() {
+        let about_to_sleep = backoff.is_completed();
+        if try_turn(board, place, about_to_sleep) {
+            return;
+        }
+        if about_to_sleep {
+            board.park(rt, TURN, AWAITED as u32);
+        } else {
+            backoff.snooze();
+        }
+    }
+    unreachable!()
+}
+
+// Makes the entry that follows in the state's list.
+pub(crate) fn write_next<S: Booked, N: Next<S::Entry>>(
+    board: &Board<S>,
+    place: &mut Place<S>,
+    state: &S,
+)
+    requires board { (place.old.table_id ≡ board.now.table_id) × (board.now.table_id.words ≡ 2) }
+    requires entered { (place.old.me.0.entered ≡ true) × (place.old.me.0.met_held ≡ Only []) }
+    requires next { (N.entry ≡ slice_get (S.entries state.now) (length place.old.me.0.seen)) × ((e : S.Entry) × (N.entry ≡ Some e) × S.may_make place.old.me.0.number e) }
+    requires room { suc (length place.old.me.0.seen) < 2 ^ 63 }
+    ensures kept { (place.new.table_id ≡ place.old.table_id) × (place.new.id ≡ place.old.id) }
+    ensures added { (e : S.Entry) × (slice_get (S.entries state.now) (length place.old.me.0.seen) ≡ Some e) × (place.new.me ≡ (appended place.old.me.0 e, place.old.me.1)) }
+{
+    let _ = state;
+    board.fetch_add::<Write<N>>(place, LENGTH, 1);
+}
+
+// Gives a number to a new place.
+pub(crate) fn give<S: Booked, N: Given>(
+    board: &Board<S>,
+    place: &mut Place<S>,
+    number: u64,
+) -> Place<S>
+    requires board { (place.old.table_id ≡ board.now.table_id) × (board.now.table_id.words ≡ 2) }
+    requires outside { (place.old.me.0.entered ≡ false) × (place.old.me.0.met_held ≡ Only []) }
+    requires number { N.number ≡ number }
+    requires held { has place.old.me.0.held number ≡ true }
+    ensures kept { (place.new.table_id ≡ place.old.table_id) × (place.new.me ≡ (giving number place.old.me.0, place.old.me.1)) }
+    ensures given { (result.table_id ≡ place.old.table_id) × (result.me ≡ (given number place.old.me.0, [])) }
+{
+    let _ = number;
+    board.split_seat::<Give<N>>(place)
+}
