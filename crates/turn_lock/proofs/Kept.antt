@@ -1,5 +1,5 @@
 -- Each kind of step keeps the rule.
-use Rattle.std.proofs.Common.{◌≡◌, ◌≢◌, ◌⊎◌, ℕ, zero, suc, ◌+◌, ◌%◌, ◌^◌, ◌<◌, ◌≤◌, eqb, Bool, true, false, not, ◌||◌, ◌&&◌, List, [], ◌∷◌, ◌++◌, length, map, get_or, set, All, Option, Some, None, refl, sym, ap, ◌∙◌, subst, inl, inr, ⊎_elim, true≢false, length-append, pos_of_ne-zero, mod-eq_of_lt, eq-eqb, eqb-true, arith}
+use Rattle.std.proofs.Common.{◌≡◌, ◌≢◌, ◌⊎◌, ℕ, zero, suc, ◌+◌, ◌%◌, ◌^◌, ◌<◌, ◌≤◌, eqb, Bool, true, false, not, ◌||◌, ◌&&◌, List, [], ◌∷◌, ◌++◌, length, map, get_or, set, All, Option, Some, None, is_some, refl, sym, ap, ◌∙◌, subst, inl, inr, ⊎_elim, true≢false, length-append, pos_of_ne-zero, mod-eq_of_lt, eq-eqb, eqb-true, arith}
 use Rattle.std.proofs.lemmas.List.Elements.{All-nil, All-push, All-same}
 use Rattle.std.proofs.lemmas.Bool.{or_cases, and_parts}
 use Rattle.std.proofs.lemmas.Bool.Decides.{nat_tests}
@@ -395,10 +395,9 @@ module _ {S E H : Type 0} (entries : S → List E) (home : S → H) (may_make : 
     apart = λ n i j v w ei ej _ _. only_index (first_known first) i v ei ∙ sym (only_index (first_known first) j w ej);
   }
 
-  -- The end: who holds all numbers and is not entered finds the state at home, and it stands for all that the seat has seen
-  pub ends : (id : ℕ) (v : Known S E) (x : S) (words : List ℕ) (slots : List (Option S)) → HasAll v.held → v.entered ≡ false → v.first ≡ Some x → Final (Seen (Rule entries home may_make first) id v) words slots
+  state_at_end : (id : ℕ) (v : Known S E) (x : S) (words : List ℕ) (slots : List (Option S)) → HasAll v.held → v.entered ≡ false → v.first ≡ Some x → Final (Seen (Rule entries home may_make first) id v) words slots
       → (state : S) × (get_elem? slots 0 ≡ some (Some state)) × StandsFor entries home may_make x v.seen state
-  ends id v x words slots all out is f =
+  state_at_end id v x words slots all out is f =
       let r = f.1.0 in
       let at = f.1.1 in
       let kn = r.knows id v at in
@@ -414,3 +413,18 @@ module _ {S E H : Type 0} (entries : S → List E) (home : S → H) (may_make : 
           let one : p.known ≡ v = some-injective p.known v (sym p.there ∙ (ap (get_elem? f.0.views) here ∙ at)) in
           absurd (true≢false (sym p.entered ∙ (ap (λ (k : Known S E). k.entered) one ∙ out))))
       r.place
+
+  -- The end: who holds all numbers and is not entered finds the state at home, and it stands for all that the seat has seen
+  pub ends : (id : ℕ) (v : Known S E) (x : S) (words : List ℕ) (slots : List (Option S)) (found : Option S) → HasAll v.held → v.entered ≡ false → v.first ≡ Some x → Final (Seen (Rule entries home may_make first) id v) words slots
+      → get_elem? slots 0 ≡ some found → (is_some found ≡ true) × ((state : S) → found ≡ Some state → StandsFor entries home may_make x v.seen state)
+  ends id v x words slots found all out is f at =
+      let last = state_at_end id v x words slots all out is f in
+      let same : found ≡ Some last.0 = some-injective found (Some last.0) (sym at ∙ last.1) in
+      (ap is_some same, λ state e. subst (StandsFor entries home may_make x v.seen) (some_one (sym same ∙ e)) last.2)
+
+  -- the same of a seat that has put the state into its slot
+  pub leaves_from : (slots id : ℕ) (m n : Me (Option S) (Known S E)) (state x : S) (a b : ℕ) → n.1 ≡ (0, None) ∷ [] → m ≡ (n.0, (0, Some state) ∷ rest n.1) → n.0.entered ≡ true → n.0.first ≡ Some x
+      → StandsFor entries home may_make x n.0.seen state → Allows (Rule entries home may_make first) slots id m 0 (λ _. 0) (left (step slots 0 a b none) m)
+  leaves_from slots id m n state x a b out is entered first_is stands =
+      subst (λ (k : Me (Option S) (Known S E)). Allows (Rule entries home may_make first) slots id k 0 (λ _. 0) (left (step slots 0 a b none) k))
+          (sym (is ∙ ap (λ (l : List (ℕ × Option S)). (n.0, (0, Some state) ∷ rest l)) out)) (leaves slots id n.0 state x a b entered first_is stands)

@@ -2,3 +2,4 @@ pub mod Held
 pub mod Going
 pub mod Views
 pub mod Kept
+pub mod Shown

@@ -65,4 +65,82 @@ impl<S: Booked> Turn<S> {
         take_turn(rt, board, &mut seat.place);
         board.exchange(&mut seat.place, STATE, None).unwrap()
     }
+    /// Adds the next entry of the state's list to the book: the first that the seat has not seen.
+    pub fn append(&self, seat: &mut Seat<S>, state: &S)
+        requires lock { seat.old.lock ≡ self.now }
+        requires entered { seat.old.entered ≡ true }
+        requires next { MayAppend S.may_make seat.old.number seat.old.seen (S.entries state.now) }
+        requires room { length (S.entries state.now) < 2 ^ 63 }
+        ensures added { Appends (S.entries state.now) seat.old seat.new }
+        ensures kept { seat.new ≡ record seat.old { seen = seat.new.seen; mine = seat.new.mine } }
+    {
+        write_next::<S, Brand>(&self.table.shared, &mut seat.place, state);
+    }
+
+    /// Gives the state back and frees the turn. It wakes a thread that sleeps until then.
+    pub fn leave(&self, seat: &mut Seat<S>, state: S)
+        requires lock { seat.old.lock ≡ self.now }
+        requires entered { seat.old.entered ≡ true }
+        requires stands { StandsFor S.entries S.home S.may_make self.now.first seat.old.seen state }
+        ensures kept { seat.new ≡ record seat.old { entered = false } }
+    {
+        let board = &self.table.shared;
+        board.exchange(&mut seat.place, STATE, Some(state));
+        if board.swap::<Leave>(&mut seat.place, TURN, FREE) == AWAITED {
+            board.wake_one(TURN);
+        }
+    }
+
+    /// A new seat that has seen as much, with the number for its own. The number goes over to it.
+    pub fn split(&self, seat: &mut Seat<S>, number: u64) -> Seat<S>
+        requires lock { seat.old.lock ≡ self.now }
+        requires outside { seat.old.entered ≡ false }
+        requires held { has seat.old.held number ≡ true }
+        ensures new { result ≡ split_off seat.old number }
+        ensures kept { seat.new ≡ record seat.old { held = without seat.old.held number } }
+    {
+        let place = give::<S, Brand>(&self.table.shared, &mut seat.place, number);
+        Seat { place }
+    }
+
+    /// Takes in another seat: its numbers, and what it had seen where that is more. It waits for nobody.
+    pub fn meet(&self, seat: &mut Seat<S>, other: Seat<S>)
+        requires lock { seat.old.lock ≡ self.now }
+        requires other_lock { other.lock ≡ self.now }
+        requires outside { seat.old.entered ≡ false }
+        requires other_outside { other.entered ≡ false }
+        ensures kept { seat.new ≡ record seat.old { seen = longer seat.old.seen other.seen; held = together seat.old.held other.held } }
+        ensures seen { GoesOn seat.old.held seat.old.seen seat.new.seen }
+        ensures other_seen { GoesOn other.held other.seen seat.new.seen }
+    {
+        let board = &self.table.shared;
+        let Seat { place } = other;
+        board.join_seat::<Meet>(&mut seat.place, place);
+        board.load::<Settle>(&mut seat.place, LENGTH);
+    }
+
+    /// Looks at the book, and answers how many entries it has. It waits for nobody.
+    pub fn glance(&self, seat: &mut Seat<S>) -> u64
+        requires lock { seat.old.lock ≡ self.now }
+        ensures length { result ≡ length seat.new.seen }
+        ensures seen { GoesOn seat.old.held seat.old.seen seat.new.seen }
+        ensures kept { seat.new ≡ record seat.old { seen = seat.new.seen } }
+    {
+        self.table.shared.load::<Glance>(&mut seat.place, LENGTH)
+    }
+
+    /// Ends the lock. The seat holds all numbers, so it has seen the whole book, and the state stands for it.
+    pub fn close(self, seat: Seat<S>) -> S
+        requires lock { seat.lock ≡ self }
+        requires outside { seat.entered ≡ false }
+        requires all { HasAll seat.held }
+        ensures { StandsFor S.entries S.home S.may_make self.first seat.seen result }
+    {
+        let Turn { table } = self;
+        let Seat { place } = seat;
+        let mut closed = table.close_with(place);
+        let state = closed.take(STATE);
+        closed.free();
+        state.unwrap()
+    }
 }
