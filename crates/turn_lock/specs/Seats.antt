@@ -44,11 +44,6 @@ module _ {S E : Type 0} where
   abbrev pub split_off : SeatState S E → ℕ → SeatState S E
   split_off seat n = record { lock = seat.lock; number = n; held = Only (n ∷ []); seen = seat.seen; mine = []; entered = false }
 
-  -- Where the state's list is what the seat has seen, and then an entry, the seat has seen and made that entry too
-  abbrev pub Appends : List E → SeatState S E → SeatState S E → Type 0
-  Appends list old new = (next : E) (later : List E) → list ≡ entries_of old.seen ++ next ∷ later
-      → (new.seen ≡ old.seen ++ line old.number next ∷ []) × (new.mine ≡ old.mine ++ next ∷ [])
-
   -- a seat as its thread knows it
   abbrev pub seat_state : TableId → (k : Known S E) → is_some k.first ≡ true → SeatState S E
   seat_state table k live = record {
@@ -59,3 +54,8 @@ module _ {S E : Type 0} where
     mine = k.mine;
     entered = k.entered;
   }
+
+-- A step that appends: where a list is what the seat had seen, and then an entry, the seat has then seen and made that entry too
+pub record Appends {S E : Type 0} (list : List E) (old new : SeatState S E) : Type 0 where
+  pub seen : (next : E) (later : List E) → list ≡ entries_of old.seen ++ next ∷ later → new.seen ≡ old.seen ++ line old.number next ∷ []
+  pub mine : (next : E) (later : List E) → list ≡ entries_of old.seen ++ next ∷ later → new.mine ≡ old.mine ++ next ∷ []

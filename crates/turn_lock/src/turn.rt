@@ -1,5 +1,5 @@
 //! The lock.
-ghost use Rattle.std.specs.Prelude.{◌≡◌, ◌^◌, ◌<◌, true, false, [], length, IfOk};
+ghost use Rattle.std.specs.Prelude.{◌≡◌, ◌^◌, ◌<◌, true, false, [], length, IsTrue, IsFalse, IfOk};
 ghost use Rattle.turn_lock.specs.Numbers.{has, HasAll, without, together};
 ghost use Rattle.turn_lock.specs.Book.{GoesOn, MayAppend, StandsFor, longer};
 ghost use Rattle.turn_lock.specs.Seats.{Lock, Appends, first_seat, split_off};
@@ -55,8 +55,8 @@ impl<S: Booked> Turn<S> {
     /// Waits for the turn and takes the state, which stands for the whole book. The seat has then seen the book.
     pub fn enter<T: Wait>(&self, rt: &T, seat: &mut Seat<S>) -> S
         requires lock { seat.old.lock ≡ self.now }
-        requires outside { seat.old.entered ≡ false }
-        requires own { has seat.old.held seat.old.number ≡ true }
+        requires outside { IsFalse seat.old.entered }
+        requires own { IsTrue (has seat.old.held seat.old.number) }
         ensures stands { StandsFor S.entries S.home S.may_make self.now.first seat.new.seen result }
         ensures seen { GoesOn seat.old.held seat.old.seen seat.new.seen }
         ensures kept { seat.new ≡ record seat.old { seen = seat.new.seen; entered = true } }
@@ -68,7 +68,7 @@ impl<S: Booked> Turn<S> {
     /// Adds the next entry of the state's list to the book: the first that the seat has not seen.
     pub fn append(&self, seat: &mut Seat<S>, state: &S)
         requires lock { seat.old.lock ≡ self.now }
-        requires entered { seat.old.entered ≡ true }
+        requires entered { IsTrue seat.old.entered }
         requires next { MayAppend S.may_make seat.old.number seat.old.seen (S.entries state.now) }
         requires room { length (S.entries state.now) < 2 ^ 63 }
         ensures added { Appends (S.entries state.now) seat.old seat.new }
@@ -80,7 +80,7 @@ impl<S: Booked> Turn<S> {
     /// Gives the state back and frees the turn. It wakes a thread that sleeps until then.
     pub fn leave(&self, seat: &mut Seat<S>, state: S)
         requires lock { seat.old.lock ≡ self.now }
-        requires entered { seat.old.entered ≡ true }
+        requires entered { IsTrue seat.old.entered }
         requires stands { StandsFor S.entries S.home S.may_make self.now.first seat.old.seen state }
         ensures kept { seat.new ≡ record seat.old { entered = false } }
     {
@@ -94,8 +94,8 @@ impl<S: Booked> Turn<S> {
     /// A new seat that has seen as much, with the number for its own. The number goes over to it.
     pub fn split(&self, seat: &mut Seat<S>, number: u64) -> Seat<S>
         requires lock { seat.old.lock ≡ self.now }
-        requires outside { seat.old.entered ≡ false }
-        requires held { has seat.old.held number ≡ true }
+        requires outside { IsFalse seat.old.entered }
+        requires held { IsTrue (has seat.old.held number) }
         ensures new { result ≡ split_off seat.old number }
         ensures kept { seat.new ≡ record seat.old { held = without seat.old.held number } }
     {
@@ -105,13 +105,11 @@ impl<S: Booked> Turn<S> {
 
     /// Takes in another seat: its numbers, and what it had seen where that is more. It waits for nobody.
     pub fn meet(&self, seat: &mut Seat<S>, other: Seat<S>)
-        requires lock { seat.old.lock ≡ self.now }
-        requires other_lock { other.lock ≡ self.now }
-        requires outside { seat.old.entered ≡ false }
-        requires other_outside { other.entered ≡ false }
+        requires lock { (seat.old.lock ≡ self.now) × (other.lock ≡ self.now) }
+        requires outside { IsFalse seat.old.entered × IsFalse other.entered }
         ensures kept { seat.new ≡ record seat.old { seen = longer seat.old.seen other.seen; held = together seat.old.held other.held } }
         ensures seen { GoesOn seat.old.held seat.old.seen seat.new.seen }
-        ensures other_seen { GoesOn other.held other.seen seat.new.seen }
+        ensures met { GoesOn other.held other.seen seat.new.seen }
     {
         let board = &self.table.shared;
         let Seat { place } = other;
@@ -132,7 +130,7 @@ impl<S: Booked> Turn<S> {
     /// Ends the lock. The seat holds all numbers, so it has seen the whole book, and the state stands for it.
     pub fn close(self, seat: Seat<S>) -> S
         requires lock { seat.lock ≡ self }
-        requires outside { seat.entered ≡ false }
+        requires outside { IsFalse seat.entered }
         requires all { HasAll seat.held }
         ensures { StandsFor S.entries S.home S.may_make self.first seat.seen result }
     {
