@@ -163,40 +163,43 @@ module _ {S E H : Type 0} (entries : S → List E) (home : S → H) (may_make : 
       let kn = r.knows id v at in
       ⊎_elim
       (λ (p : IsFree entries home may_make first r.book r.turn s.homes s.views).
-          let w : Known S E = record v { seen = r.book; entered = true } in (
-            w,
-            takes 0 (Some p.state),
-            ap (λ hs. get_elem? hs 0) p.slot,
-            moved s.views id v w r.book t (set s.words 0 t) (set s.homes 0 none) at words' r.short r.made
-                (inr record {
-                  holder = id;
-                  known = w;
-                  turn_is = above (get_or s.words 0 0);
-                  slot = ap (λ hs. set hs 0 none) p.slot;
-                  there = set_here s.views id w (at_length s.views id v at);
-                  entered = refl;
-                  alone = each_set (λ j u. u.entered ≡ true → j ≡ id) s.views id w (λ _. refl) (λ j u ne e h. absurd (true≢false (sym h ∙ p.nobody j u e)));
-                })
-                (λ j u _ e. r.knows j u e)
-                (record { lock = kn.lock; seen = GoesOn-refl v.held r.book; met = kn.met; inside = λ _. (refl, own) })
-                (λ n h. h) r.apart,
-            ((λ _. record {
-              state = p.state;
-              slot = refl;
-              kept = refl;
-              seen = kn.seen;
-              stands = λ x e. subst (λ y. StandsFor entries home may_make y r.book p.state) (sym (kn.lock x e)) p.stands;
-            }), (λ ne. absurd (ne (found ∙ p.turn_is)))),
-          ))
+      let w : Known S E = record v { seen = r.book; entered = true } in (
+        w,
+        takes 0 (Some p.state),
+        ap (λ hs. get_elem? hs 0) p.slot,
+        moved s.views id v w r.book t (set s.words 0 t) (set s.homes 0 none) at words' r.short r.made
+            (inr record {
+              holder = id;
+              known = w;
+              turn_is = above (get_or s.words 0 0);
+              slot = ap (λ hs. set hs 0 none) p.slot;
+              there = set_here s.views id w (at_length s.views id v at);
+              entered = refl;
+              alone = each_set (λ j u. u.entered ≡ true → j ≡ id) s.views id w (λ _. refl) (λ j u ne e h. absurd (true≢false (sym h ∙ p.nobody j u e)));
+            })
+            (λ j u _ e. r.knows j u e)
+            (record { lock = kn.lock; seen = GoesOn-refl v.held r.book; met = kn.met; inside = λ _. (refl, own) })
+            (λ n h. h) r.apart,
+        (
+          (λ _. record {
+            state = p.state;
+            slot = refl;
+            kept = refl;
+            seen = kn.seen;
+            stands = λ x e. subst (λ y. StandsFor entries home may_make y r.book p.state) (sym (kn.lock x e)) p.stands;
+          }),
+          (λ ne. absurd (ne (found ∙ p.turn_is))),
+        ),
+      ))
       (λ (p : IsTaken r.turn s.homes s.views). (
-            v,
-            keeps,
-            tt,
-            moved s.views id v v r.book t (set s.words 0 t) s.homes at words' r.short r.made
-                (same_place s.views id v v r.book r.turn t s.homes at refl (λ e. let h = p.turn_is in absurd (omega arith)) (λ _. above (get_or s.words 0 0)) r.place)
-                (λ j u _ e. r.knows j u e) kn (λ n h. h) r.apart,
-            ((λ e. let h = p.turn_is in absurd (omega arith)), (λ _. refl)),
-          ))
+        v,
+        keeps,
+        tt,
+        moved s.views id v v r.book t (set s.words 0 t) s.homes at words' r.short r.made
+            (same_place s.views id v v r.book r.turn t s.homes at refl (λ e. let h = p.turn_is in absurd (omega arith)) (λ _. above (get_or s.words 0 0)) r.place)
+            (λ j u _ e. r.knows j u e) kn (λ n h. h) r.apart,
+        ((λ e. let h = p.turn_is in absurd (omega arith)), (λ _. refl)),
+      ))
       r.place
 
   -- who is entered while the seat id is, is that seat
@@ -223,9 +226,9 @@ module _ {S E H : Type 0} (entries : S → List E) (home : S → H) (may_make : 
       let grown = length-append r.book (x ∷ []) in
       let fits : suc (length r.book) < 2 ^ 63 = subst (λ (l : List (Line E)). suc (length l) < 2 ^ 63) within.0 room in
       let longer_by_one : (get_or s.words 1 0 + 1) % 2 ^ 64 ≡ length (r.book ++ x ∷ []) =
-          ap (λ n. (n + 1) % 2 ^ 64) found ∙ (mod-eq_of_lt (omega arith) ∙ sym grown) in
+      ap (λ n. (n + 1) % 2 ^ 64) found ∙ (mod-eq_of_lt (omega arith) ∙ sym grown) in
       let words' : set s.words 1 ((get_or s.words 1 0 + 1) % 2 ^ 64) ≡ r.turn ∷ length (r.book ++ x ∷ []) ∷ [] =
-          length_set s.words r.turn (length r.book) ((get_or s.words 1 0 + 1) % 2 ^ 64) r.words ∙ ap (λ n. r.turn ∷ n ∷ []) longer_by_one in (
+      length_set s.words r.turn (length r.book) ((get_or s.words 1 0 + 1) % 2 ^ 64) r.words ∙ ap (λ n. r.turn ∷ n ∷ []) longer_by_one in (
         w,
         keeps,
         tt,
@@ -242,8 +245,8 @@ module _ {S E H : Type 0} (entries : S → List E) (home : S → H) (may_make : 
               alone = each_set (λ j u. u.entered ≡ true → j ≡ id) s.views id w (λ _. refl) (λ j u _ f h. hold.2 j u f h);
             })
             (λ j u ne f. let ku = r.knows j u f in
-                let lacks = or_false (has u.held v.number) (has u.met_held v.number)
-                    (not_held (holds u v.number) (λ h. ne (r.apart v.number j id u v f at h (ap (λ t. t || has v.met_held v.number) within.1)))) in record {
+            let lacks = or_false (has u.held v.number) (has u.met_held v.number)
+            (not_held (holds u v.number) (λ h. ne (r.apart v.number j id u v f at h (ap (λ t. t || has v.met_held v.number) within.1)))) in record {
               lock = ku.lock;
               seen = GoesOn-push u.held u.seen r.book x ku.seen lacks.0;
               met = GoesOn-push u.met_held u.met r.book x ku.met lacks.1;
@@ -291,7 +294,7 @@ module _ {S E H : Type 0} (entries : S → List E) (home : S → H) (may_make : 
   loads v w id s r at same known fewer_held =
       let words' = length_set s.words r.turn (length r.book) (get_or s.words 1 0) r.words ∙ ap (λ n. r.turn ∷ n ∷ []) (length_found s.words r.turn (length r.book) r.words) in
       moved s.views id v w r.book r.turn (set s.words 1 (get_or s.words 1 0)) s.homes at words' r.short r.made
-          (same_place s.views id v w r.book r.turn r.turn s.homes at same (λ e. e) (λ h. h) r.place) (λ j u _ e. r.knows j u e) known fewer_held r.apart
+      (same_place s.views id v w r.book r.turn r.turn s.homes at same (λ e. e) (λ h. h) r.place) (λ j u _ e. r.knows j u e) known fewer_held r.apart
 
   -- Glancing: a load of the length shows the book
   pub glances : (slots id : ℕ) (v : Known S E) (c : List (ℕ × Option S)) (a b : ℕ) → Allows (Rule entries home may_make first) slots id (v, c) 1 (λ n. n) (glanced (step slots 1 a b none) (v, c))
@@ -403,15 +406,15 @@ module _ {S E H : Type 0} (entries : S → List E) (home : S → H) (may_make : 
       let kn = r.knows id v at in
       ⊎_elim
       (λ (p : IsFree entries home may_make first r.book r.turn f.0.homes f.0.views). (
-            p.state,
-            f.4 0 (Some p.state) (ap (λ hs. get_elem? hs 0) p.slot),
-            subst (λ (y : S × List (Line E)). StandsFor entries home may_make y.0 y.1 p.state) (λ k. (sym (kn.lock x is) k, whole_book v.held v.seen r.book all kn.seen k)) p.stands,
-          ))
+        p.state,
+        f.4 0 (Some p.state) (ap (λ hs. get_elem? hs 0) p.slot),
+        subst (λ (y : S × List (Line E)). StandsFor entries home may_make y.0 y.1 p.state) (λ k. (sym (kn.lock x is) k, whole_book v.held v.seen r.book all kn.seen k)) p.stands,
+      ))
       (λ (p : IsTaken r.turn f.0.homes f.0.views).
-          let inside = ((r.knows p.holder p.known p.there).inside p.entered).1 in
-          let here : p.holder ≡ id = r.apart p.known.number p.holder id p.known v p.there at (ap (λ t. t || has p.known.met_held p.known.number) inside) (ap (λ t. t || has v.met_held p.known.number) (all p.known.number)) in
-          let one : p.known ≡ v = some-injective p.known v (sym p.there ∙ (ap (get_elem? f.0.views) here ∙ at)) in
-          absurd (true≢false (sym p.entered ∙ (ap (λ (k : Known S E). k.entered) one ∙ out))))
+      let inside = ((r.knows p.holder p.known p.there).inside p.entered).1 in
+      let here : p.holder ≡ id = r.apart p.known.number p.holder id p.known v p.there at (ap (λ t. t || has p.known.met_held p.known.number) inside) (ap (λ t. t || has v.met_held p.known.number) (all p.known.number)) in
+      let one : p.known ≡ v = some-injective p.known v (sym p.there ∙ (ap (get_elem? f.0.views) here ∙ at)) in
+      absurd (true≢false (sym p.entered ∙ (ap (λ (k : Known S E). k.entered) one ∙ out))))
       r.place
 
   -- The end: who holds all numbers and is not entered finds the state at home, and it stands for all that the seat has seen
@@ -427,4 +430,4 @@ module _ {S E H : Type 0} (entries : S → List E) (home : S → H) (may_make : 
       → StandsFor entries home may_make x n.0.seen state → Allows (Rule entries home may_make first) slots id m 0 (λ _. 0) (left (step slots 0 a b none) m)
   leaves_from slots id m n state x a b out is entered first_is stands =
       subst (λ (k : Me (Option S) (Known S E)). Allows (Rule entries home may_make first) slots id k 0 (λ _. 0) (left (step slots 0 a b none) k))
-          (sym (is ∙ ap (λ (l : List (ℕ × Option S)). (n.0, (0, Some state) ∷ rest l)) out)) (leaves slots id n.0 state x a b entered first_is stands)
+      (sym (is ∙ ap (λ (l : List (ℕ × Option S)). (n.0, (0, Some state) ∷ rest l)) out)) (leaves slots id n.0 state x a b entered first_is stands)

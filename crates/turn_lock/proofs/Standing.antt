@@ -26,4 +26,4 @@ pub stands_after_append : {S E H : Type 0} (entries : S → List E) (home : S �
     → Appends (entries new) before after → StandsFor entries home may_make first after.seen new
 stands_after_append entries home may_make first before after old new e stands longer same may appends =
     subst (λ book. StandsFor entries home may_make first book new) (sym (appends.seen e [] (longer ∙ ap (λ es. es ++ e ∷ []) stands.list)))
-        (stands_after entries home may_make first before.seen old new before.number e stands longer same may)
+    (stands_after entries home may_make first before.seen old new before.number e stands longer same may)

@@ -62,13 +62,13 @@ module _ {S E : Type 0} where
     pub apart_cut : IsApart (set views id left ++ right ∷ [])
     apart_cut n i j a b ei ej ha hb = ⊎_elim
         (λ (x : get_elem? (set views id left) i ≡ some a). ⊎_elim
-            (λ (y : get_elem? (set views id left) j ≡ some b). apart_set views id v left at in_left apart n i j a b x y ha hb)
-            (λ (y : (j ≡ length (set views id left)) × (right ≡ b)). absurd (not_both n i a x ha (subst (λ (z : Known S E). holds z n ≡ true) (sym y.1) hb)))
-            (at_end (set views id left) right b j ej))
+        (λ (y : get_elem? (set views id left) j ≡ some b). apart_set views id v left at in_left apart n i j a b x y ha hb)
+        (λ (y : (j ≡ length (set views id left)) × (right ≡ b)). absurd (not_both n i a x ha (subst (λ (z : Known S E). holds z n ≡ true) (sym y.1) hb)))
+        (at_end (set views id left) right b j ej))
         (λ (x : (i ≡ length (set views id left)) × (right ≡ a)). ⊎_elim
-            (λ (y : get_elem? (set views id left) j ≡ some b). absurd (not_both n j b y hb (subst (λ (z : Known S E). holds z n ≡ true) (sym x.1) ha)))
-            (λ (y : (j ≡ length (set views id left)) × (right ≡ b)). x.0 ∙ sym y.0)
-            (at_end (set views id left) right b j ej))
+        (λ (y : get_elem? (set views id left) j ≡ some b). absurd (not_both n j b y hb (subst (λ (z : Known S E). holds z n ≡ true) (sym x.1) ha)))
+        (λ (y : (j ≡ length (set views id left)) × (right ≡ b)). x.0 ∙ sym y.0)
+        (at_end (set views id left) right b j ej))
         (at_end (set views id left) right a i ei)
 
   -- the views v and w become both, which holds nothing that neither did, and last, which holds nothing
@@ -81,9 +81,12 @@ module _ {S E : Type 0} where
     seated : (n i : ℕ) (a : Known S E) → get_elem? (set (set views id both) other last) i ≡ some a → holds a n ≡ true → Seated n i a
     seated n i a e h = ⊎_elim
         (λ (t : (i ≡ other) × (last ≡ a)). absurd (in_last n (subst (λ (x : Known S E). holds x n ≡ true) (sym t.1) h)))
-        (λ (t : (i ≢ other) × (get_elem? (set views id both) i ≡ some a)). (t.0, ⊎_elim
-            (λ (u : (i ≡ id) × (both ≡ a)). inl (u.0, subst (λ (x : Known S E). holds x n ≡ true) (sym u.1) h))
-            (λ (u : (i ≢ id) × (get_elem? views i ≡ some a)). inr u) (at_set views id i both a t.1)))
+        (λ (t : (i ≢ other) × (get_elem? (set views id both) i ≡ some a)). (
+          t.0,
+          ⊎_elim
+              (λ (u : (i ≡ id) × (both ≡ a)). inl (u.0, subst (λ (x : Known S E). holds x n ≡ true) (sym u.1) h))
+              (λ (u : (i ≢ id) × (get_elem? views i ≡ some a)). inr u) (at_set views id i both a t.1),
+        ))
         (at_set (set views id both) other i last a e)
 
     -- no other view holds what both does
@@ -94,11 +97,11 @@ module _ {S E : Type 0} where
     pub apart_joined : IsApart (set (set views id both) other last)
     apart_joined n i j a b ei ej ha hb = let x = seated n i a ei ha in let y = seated n j b ej hb in ⊎_elim
         (λ (p : (i ≡ id) × (holds both n ≡ true)). ⊎_elim
-            (λ (q : (j ≡ id) × (holds both n ≡ true)). p.0 ∙ sym q.0)
-            (λ (q : (j ≢ id) × (get_elem? views j ≡ some b)). absurd (alone n j b p.1 y.0 q.0 q.1 hb)) y.1)
+        (λ (q : (j ≡ id) × (holds both n ≡ true)). p.0 ∙ sym q.0)
+        (λ (q : (j ≢ id) × (get_elem? views j ≡ some b)). absurd (alone n j b p.1 y.0 q.0 q.1 hb)) y.1)
         (λ (p : (i ≢ id) × (get_elem? views i ≡ some a)). ⊎_elim
-            (λ (q : (j ≡ id) × (holds both n ≡ true)). absurd (alone n i a q.1 x.0 p.0 p.1 ha))
-            (λ (q : (j ≢ id) × (get_elem? views j ≡ some b)). apart n i j a b p.1 q.1 ha hb) y.1)
+        (λ (q : (j ≡ id) × (holds both n ≡ true)). absurd (alone n i a q.1 x.0 p.0 p.1 ha))
+        (λ (q : (j ≢ id) × (get_elem? views j ≡ some b)). apart n i j a b p.1 q.1 ha hb) y.1)
         x.1
 
 module _ {S E : Type 0} where
@@ -112,7 +115,7 @@ module _ {S E : Type 0} where
   pub entered_set : (views : List (Known S E)) (id holder : ℕ) (v w : Known S E) → get_elem? views id ≡ some v → w.entered ≡ v.entered → EnteredAt views holder → EnteredAt (set views id w) holder
   entered_set views id holder v w at same h = dite (ℕ_discrete holder id)
       (λ (e : holder ≡ id). let is : h.0 ≡ v = some-injective h.0 v (sym h.1 ∙ (ap (get_elem? views) e ∙ at)) in
-          (w, ap (get_elem? (set views id w)) e ∙ set_here views id w (at_length views id v at), same ∙ (sym (ap (λ (k : Known S E). k.entered) is) ∙ h.2)))
+      (w, ap (get_elem? (set views id w)) e ∙ set_here views id w (at_length views id v at), same ∙ (sym (ap (λ (k : Known S E). k.entered) is) ∙ h.2)))
       (λ (ne : holder ≢ id). entered_else views id holder w ne h)
 
   pub entered_end : (views : List (Known S E)) (holder : ℕ) (u : Known S E) → EnteredAt views holder → EnteredAt (views ++ u ∷ []) holder

@@ -13,7 +13,12 @@ use crossbeam_utils::Backoff;
 use std::snapshot::Snapshot;
 use std::sync::Wait;
 
-pub(crate) type Board<S> = Shared<Option<S>, Known<S, <S as Booked>::Entry>, Snapshot<S>, ByTheBook>;
+pub(crate) type Board<S> = Shared<
+    Option<S>,
+    Known<S, <S as Booked>::Entry>,
+    Snapshot<S>,
+    ByTheBook,
+>;
 
 // The words of the table.
 pub(crate) const TURN: usize = 0;

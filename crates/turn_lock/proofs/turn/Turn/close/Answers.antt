@@ -4,7 +4,6 @@ use Rattle.turn_lock.proofs.Shown.{present-is, stands_as}
 use Rattle.turn_lock.proofs.Kept.{ends}
 use Rattle.turn_lock.proofs.turn.Turn.close.Goals as goal
 
-
 pub unwrap-requires : goal.unwrap-requires
 unwrap-requires g c = let b = g.S.Booked in
     let place = c.seat.inside.place in
