@@ -1,13 +1,10 @@
 -- Laws of `GoesOn`: a list that goes on from what was seen, with no further entry of a number that was held.
-use Rattle.std.proofs.Common.{◌≡◌, ◌≢◌, ◌⊎◌, ℕ, Bool, true, false, cond, ◌||◌, ◌<◌, ◌≤◌, List, [], ◌∷◌, ◌++◌, drop, get_or, length, map, All, nat_lt, refl, sym, ap, ◌∙◌, subst, inl, inr, ⊎_elim, append_assoc, append-nil, length-append, true≢false, arith, ltb-true, ltb-false}
+use Rattle.std.proofs.Common.{◌≡◌, ℕ, Bool, true, false, cond, ◌||◌, ◌≤◌, List, [], ◌∷◌, ◌++◌, drop, get_or, length, All, nat_lt, refl, sym, ap, ◌∙◌, subst, append_assoc, append-nil, true≢false, arith, ltb-true, ltb-false}
 use Rattle.std.proofs.lemmas.List.Elements.{All-nil, All-cons, All-head, All-tail, All-append, All-push, All-weaker, All-same}
-use Rattle.std.proofs.lemmas.List.Prefix.{front_rest}
-use Rattle.std.proofs.lemmas.Bool.{cases_Bool}
 use Rattle.turn_lock.specs.declared.known.Line.{Line}
 use Rattle.turn_lock.specs.declared.known.Numbers.{Numbers}
-use Rattle.turn_lock.specs.declared.known.Numbers.TheVariants.{Only, AllBut}
 use Rattle.turn_lock.specs.Numbers.{has, HasAll, together}
-use Rattle.turn_lock.specs.Book.{line, entries_of, longer, GoesOn}
+use Rattle.turn_lock.specs.Book.{longer, GoesOn}
 use Rattle.turn_lock.proofs.Held.{has-together}
 
 all_parts : {X : Type 0} (P : X → Type 0) (xs ys : List X) → All P (xs ++ ys) → All P xs × All P ys

@@ -1,25 +1,25 @@
 -- Each kind of step keeps the rule.
-use Rattle.std.proofs.Common.{◌≡◌, ◌≢◌, ◌⊎◌, ℕ, zero, suc, ◌+◌, ◌%◌, ◌^◌, ◌<◌, ◌≤◌, eqb, Bool, true, false, not, ◌||◌, ◌&&◌, List, [], ◌∷◌, ◌++◌, length, map, get_or, set, All, Option, Some, None, is_some, refl, sym, ap, ◌∙◌, subst, inl, inr, ⊎_elim, true≢false, length-append, pos_of_ne-zero, mod-eq_of_lt, eq-eqb, eqb-true, arith}
-use Rattle.std.proofs.lemmas.List.Elements.{All-nil, All-push, All-same}
-use Rattle.std.proofs.lemmas.Bool.{or_cases, and_parts}
+use Rattle.std.proofs.Common.{◌≡◌, ◌≢◌, ◌⊎◌, ℕ, zero, suc, ◌+◌, ◌%◌, ◌^◌, ◌<◌, eqb, Bool, true, false, not, ◌||◌, ◌&&◌, List, [], ◌∷◌, ◌++◌, length, get_or, set, All, Option, Some, None, is_some, refl, sym, ap, ◌∙◌, subst, inl, inr, ⊎_elim, true≢false, length-append, pos_of_ne-zero, mod-eq_of_lt, eqb-true, arith}
+use Rattle.std.proofs.lemmas.List.Elements.{All-nil, All-push}
+use Rattle.std.proofs.lemmas.Bool.{and_parts}
 use Rattle.std.proofs.lemmas.Bool.Decides.{nat_tests}
 use mathlib.Core.Option.{some, none, some-injective, some-ne-none}
 use mathlib.Core.Option as maybe
 use lib.ListN.{get_elem?}
 use prog.Atomic.{either}
-use Rattle.atomic_table.specs.Table.{State, Me, step, Act, keeps, takes, gives, Allows, Splits, Joins, opening, Final, Seen, rest}
-use Rattle.atomic_table.proofs.Lists.{at_set, set_here, set_else, set_again, at_longer, exchanged}
+use Rattle.atomic_table.specs.Table.{State, Me, step, keeps, takes, gives, Allows, Splits, Joins, opening, Final, Seen, rest}
+use Rattle.atomic_table.proofs.Lists.{set_here, set_else, exchanged}
 use Rattle.turn_lock.specs.declared.known.Line.{Line}
 use Rattle.turn_lock.specs.declared.known.Known.{Known}
 use Rattle.turn_lock.specs.declared.known.Numbers.{Numbers}
 use Rattle.turn_lock.specs.declared.known.Numbers.TheVariants.{Only, AllBut}
 use Rattle.turn_lock.specs.Numbers.{has, HasAll, without, together}
-use Rattle.turn_lock.specs.Book.{line, entries_of, longer, GoesOn, StandsFor}
+use Rattle.turn_lock.specs.Book.{line, GoesOn, StandsFor}
 use Rattle.turn_lock.specs.Rule.{Rule, IsFree, IsTaken, Knows, holds, IsApart, first_known, spent}
-use Rattle.turn_lock.specs.Steps.{Enters, took, appended, wrote, left, glanced, giving, given, meeting, settling, settled}
+use Rattle.turn_lock.specs.Steps.{took, appended, wrote, left, glanced, giving, given, meeting, settling, settled}
 use Rattle.turn_lock.proofs.Held.{has-without, has-together}
-use Rattle.turn_lock.proofs.Going.{fewer, or_false, GoesOn-refl, GoesOn-push, GoesOn-fewer, longer_goes_on, whole_book}
-use Rattle.turn_lock.proofs.Views.{at_length, each_set, each_end, at_end, apart_set, apart_cut, apart_joined, entered_set, entered_else, entered_end}
+use Rattle.turn_lock.proofs.Going.{or_false, GoesOn-refl, GoesOn-push, GoesOn-fewer, longer_goes_on, whole_book}
+use Rattle.turn_lock.proofs.Views.{at_length, each_set, each_end, apart_set, apart_cut, apart_joined, entered_set, entered_end}
 
 not_held : (b : Bool) → (b ≡ true → ⊥) → b ≡ false
 not_held true h = absurd (h refl)

@@ -1,10 +1,9 @@
 -- How a seat's value follows from what its thread knows.
-use Rattle.std.proofs.Common.{◌≡◌, ℕ, Bool, true, false, List, [], ◌∷◌, Option, Some, None, is_some, refl, sym, ap, ◌∙◌, subst, true≢false}
+use Rattle.std.proofs.Common.{◌≡◌, ℕ, true, List, ◌∷◌, Option, Some, None, is_some, refl, sym, ap, ◌∙◌, subst, true≢false}
 use Rattle.atomic_table.specs.Table.{rest}
 use Rattle.turn_lock.specs.declared.known.Line.{Line}
-use Rattle.turn_lock.specs.declared.known.Known.{Known}
 use Rattle.turn_lock.specs.Book.{StandsFor}
-use Rattle.turn_lock.specs.Seats.{Lock, SeatState, present, seat_state}
+use Rattle.turn_lock.specs.Seats.{present}
 
 pub present-is : {S : Type 0} → (o : Option S) (h : is_some o ≡ true) → o ≡ Some (present o h)
 present-is (Some x) h = refl

@@ -1,7 +1,6 @@
 -- Laws of `StandsFor`, for callers of the lock.
-use Rattle.std.proofs.Common.{◌≡◌, ℕ, List, [], ◌∷◌, ◌++◌, map, All, refl, sym, ap, ◌∙◌, subst}
+use Rattle.std.proofs.Common.{◌≡◌, ℕ, List, [], ◌∷◌, ◌++◌, refl, sym, ap, ◌∙◌, subst}
 use Rattle.std.proofs.lemmas.List.Elements.{All-push}
-use mathlib.Core.List.{map-append}
 use Rattle.turn_lock.specs.declared.known.Line.{Line}
 use Rattle.turn_lock.specs.Book.{line, entries_of, StandsFor}
 use Rattle.turn_lock.specs.Seats.{SeatState, Appends}

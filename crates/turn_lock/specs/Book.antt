@@ -1,5 +1,5 @@
 -- A book: its lines, the oldest first, each an entry with the number of the seat that made it.
-use Rattle.std.specs.Prelude.{◌≡◌, ℕ, ◌<◌, false, List, [], ◌∷◌, ◌++◌, map, length, All, if◌then◌else◌, nat_lt}
+use Rattle.std.specs.Prelude.{◌≡◌, ℕ, false, List, ◌∷◌, ◌++◌, map, length, All, if◌then◌else◌, nat_lt}
 use Rattle.turn_lock.specs.declared.known.Line.{Line}
 use Rattle.turn_lock.specs.declared.known.Numbers.{Numbers}
 use Rattle.turn_lock.specs.Numbers.{has}

@@ -1,5 +1,5 @@
 -- The numbers that a seat holds: a list, or all but a list.
-use Rattle.std.specs.Prelude.{◌≡◌, ℕ, Bool, true, not, ◌&&◌, ◌||◌, ◌==◌, List, [], ◌∷◌, ◌++◌, filter}
+use Rattle.std.specs.Prelude.{◌≡◌, ℕ, Bool, true, not, ◌==◌, List, ◌∷◌, ◌++◌, filter}
 use Rattle.std.specs.List.{list_any}
 use Rattle.turn_lock.specs.declared.known.Numbers.{Numbers}
 use Rattle.turn_lock.specs.declared.known.Numbers.TheVariants.{Only, AllBut}

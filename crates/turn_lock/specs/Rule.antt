@@ -1,12 +1,11 @@
 -- The rule of the lock's table. Its words are the turn and the length of the book, and its one slot has the state.
-use Rattle.std.specs.Prelude.{◌≡◌, ◌≢◌, ◌⊎◌, ℕ, ◌+◌, ◌^◌, ◌<◌, ◌||◌, Bool, true, false, List, [], ◌∷◌, ◌++◌, length, All, Option, Some, None}
+use Rattle.std.specs.Prelude.{◌≡◌, ◌⊎◌, ℕ, ◌^◌, ◌<◌, ◌||◌, Bool, true, false, List, [], ◌∷◌, length, All, Option, Some, None}
 use mathlib.Core.Option.{some, none}
 use mathlib.Core.Option as maybe
 use lib.ListN.{get_elem?}
 use Rattle.atomic_table.specs.Table.{State}
 use Rattle.turn_lock.specs.declared.known.Line.{Line}
 use Rattle.turn_lock.specs.declared.known.Known.{Known}
-use Rattle.turn_lock.specs.declared.known.Numbers.{Numbers}
 use Rattle.turn_lock.specs.declared.known.Numbers.TheVariants.{Only, AllBut}
 use Rattle.turn_lock.specs.Numbers.{has}
 use Rattle.turn_lock.specs.Book.{GoesOn, StandsFor}

@@ -3,13 +3,11 @@ use Rattle.std.specs.Prelude.{◌≡◌, ℕ, Bool, true, false, List, [], ◌�
 use mathlib.Core.Bool.{true≢false}
 use mathlib.Core.Path.{sym}
 use Rattle.atomic_table.specs.Seated.{TableId}
-use Rattle.atomic_table.specs.declared.shared.Seat.{Seat}
 use Rattle.turn_lock.specs.declared.known.Numbers.{Numbers}
 use Rattle.turn_lock.specs.declared.known.Numbers.TheVariants.{Only, AllBut}
 use Rattle.turn_lock.specs.declared.known.Line.{Line}
 use Rattle.turn_lock.specs.declared.known.Known.{Known}
-use Rattle.turn_lock.specs.Numbers.{without, together}
-use Rattle.turn_lock.specs.Book.{line, entries_of, longer}
+use Rattle.turn_lock.specs.Book.{line, entries_of}
 
 -- which lock it is, and the state that it was made with
 pub record Lock (S : Type 0) : Type 0 where

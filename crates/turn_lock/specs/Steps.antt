@@ -1,12 +1,10 @@
 -- What each step of a lock tells the seat that makes it.
-use Rattle.std.specs.Prelude.{◌≡◌, ◌≢◌, ℕ, false, true, List, [], ◌∷◌, ◌++◌, length, Option, Some, None}
+use Rattle.std.specs.Prelude.{◌≡◌, ◌≢◌, ℕ, false, true, List, [], ◌∷◌, ◌++◌, length, Option, Some}
 use Rattle.atomic_table.specs.Table.{Step, Me, rest}
-use Rattle.turn_lock.specs.declared.known.Line.{Line}
 use Rattle.turn_lock.specs.declared.known.Known.{Known}
 use Rattle.turn_lock.specs.declared.known.Numbers.TheVariants.{Only}
 use Rattle.turn_lock.specs.Numbers.{without, together}
 use Rattle.turn_lock.specs.Book.{line, longer, GoesOn, StandsFor}
-use Rattle.turn_lock.specs.Rule.{spent}
 
 abbrev pub Sat : Type 0 → Type 0 → Type 0
 Sat S E = Me (Option S) (Known S E)

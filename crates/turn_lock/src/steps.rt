@@ -2,11 +2,12 @@
 ghost use Rattle.std.specs.Prelude.{◌≡◌, ◌+◌, ◌^◌, ◌<◌, suc, true, false, length, slice_get, [], ◌∷◌, IsTrue, Some, None, MatchBool};
 ghost use Rattle.turn_lock.specs.declared.known.Numbers.TheVariants.{Only};
 ghost use Rattle.turn_lock.specs.Numbers.{has};
-ghost use Rattle.turn_lock.specs.Steps.{Enters, appended, giving, given};
+ghost use Rattle.turn_lock.specs.Book.{GoesOn};
+ghost use Rattle.turn_lock.specs.Steps.{Enters, appended, giving, given, meeting, settling};
 
 use crate::booked::Booked;
 use crate::known::Known;
-use crate::rule::{ByTheBook, Give, Given, Next, Take, Write};
+use crate::rule::{ByTheBook, Give, Given, Meet, Next, Settle, Take, Write};
 use crate::seat::Place;
 use atomic_table::Shared;
 use crossbeam_utils::Backoff;
@@ -102,4 +103,17 @@ pub(crate) fn give<S: Booked, N: Given>(
 {
     let _ = number;
     board.split_seat::<Give<N>>(place)
+}
+
+// Takes in another place, with the longer of what the two had seen.
+pub(crate) fn take_in<S: Booked>(board: &Board<S>, place: &mut Place<S>, other: Place<S>)
+    requires board { (place.old.table_id ≡ board.now.table_id) × (other.table_id ≡ board.now.table_id) × (board.now.table_id.words ≡ 2) }
+    requires outside { (place.old.me.0.entered ≡ false) × (other.me.0.entered ≡ false) × (other.me.1 ≡ []) }
+    requires quiet { (place.old.me.0.met_held ≡ Only []) × (other.me.0.met_held ≡ Only []) }
+    ensures kept { (place.new.table_id ≡ place.old.table_id) × (place.new.me ≡ (settling (meeting place.old.me.0 other.me.0), place.old.me.1)) }
+    ensures seen { GoesOn place.old.me.0.held place.old.me.0.seen place.new.me.0.seen }
+    ensures met { GoesOn other.me.0.held other.me.0.seen place.new.me.0.seen }
+{
+    board.join_seat::<Meet>(place, other);
+    board.load::<Settle>(place, LENGTH);
 }

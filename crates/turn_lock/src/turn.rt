@@ -6,9 +6,9 @@ ghost use Rattle.turn_lock.specs.Seats.{Lock, Appends, first_seat, split_off};
 
 use crate::booked::Booked;
 use crate::known::Known;
-use crate::rule::{ByTheBook, Glance, Leave, Meet, Settle};
+use crate::rule::{ByTheBook, Glance, Leave};
 use crate::seat::Seat;
-use crate::steps::{AWAITED, FREE, LENGTH, STATE, TURN, give, take_turn, write_next};
+use crate::steps::{AWAITED, FREE, LENGTH, STATE, TURN, give, take_in, take_turn, write_next};
 use atomic_table::Table;
 use io_ports::NoMemory;
 use std::alloc::Global;
@@ -65,6 +65,7 @@ impl<S: Booked> Turn<S> {
         take_turn(rt, board, &mut seat.place);
         board.exchange(&mut seat.place, STATE, None).unwrap()
     }
+
     /// Adds the next entry of the state's list to the book: the first that the seat has not seen.
     pub fn append(&self, seat: &mut Seat<S>, state: &S)
         requires lock { seat.old.lock ≡ self.now }
@@ -111,10 +112,8 @@ impl<S: Booked> Turn<S> {
         ensures seen { GoesOn seat.old.held seat.old.seen seat.new.seen }
         ensures met { GoesOn other.held other.seen seat.new.seen }
     {
-        let board = &self.table.shared;
         let Seat { place } = other;
-        board.join_seat::<Meet>(&mut seat.place, place);
-        board.load::<Settle>(&mut seat.place, LENGTH);
+        take_in(&self.table.shared, &mut seat.place, place);
     }
 
     /// Looks at the book, and answers how many entries it has. It waits for nobody.

@@ -1,4 +1,4 @@
-use Rattle.std.proofs.Common.{arith, ◌<◌, eqb}
+use Rattle.std.proofs.Common.{arith, eqb}
 use prog.Atomic.{either}
 use Rattle.turn_lock.proofs.Kept.{takes_turn, taken_above}
 use Rattle.turn_lock.proofs.steps.try_turn.Goals as goal

@@ -1,4 +1,4 @@
-use Rattle.std.proofs.Common.{arith, ◌<◌}
+use Rattle.std.proofs.Common.{arith}
 use Rattle.turn_lock.proofs.Kept.{appends}
 use Rattle.turn_lock.proofs.steps.write_next.Goals as goal
 

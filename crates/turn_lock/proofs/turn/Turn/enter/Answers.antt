@@ -1,4 +1,4 @@
-use Rattle.std.proofs.Common.{rules, ◌≡◌, Some, sym, ap, ◌∙◌}
+use Rattle.std.proofs.Common.{rules, Some, sym, ap, ◌∙◌}
 use Rattle.turn_lock.proofs.Shown.{present-is, before_rest, same_front, stands_as}
 use Rattle.turn_lock.proofs.turn.Turn.enter.Goals as goal
 

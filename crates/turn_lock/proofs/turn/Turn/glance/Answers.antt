@@ -1,4 +1,4 @@
-use Rattle.std.proofs.Common.{rules, arith, ◌<◌}
+use Rattle.std.proofs.Common.{rules, arith}
 use Rattle.turn_lock.proofs.Kept.{glances}
 use Rattle.turn_lock.proofs.turn.Turn.glance.Goals as goal
 

@@ -1,4 +1,4 @@
-use Rattle.std.proofs.Common.{rules, arith, ◌<◌, refl, Some, sym, ap, ◌∙◌}
+use Rattle.std.proofs.Common.{rules, arith, refl, Some, sym, ap, ◌∙◌}
 use Rattle.turn_lock.specs.Seats.{slots_out}
 use Rattle.turn_lock.proofs.Shown.{present-is, stands_as}
 use Rattle.turn_lock.proofs.Kept.{leaves_from}
