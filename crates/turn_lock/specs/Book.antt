@@ -5,6 +5,7 @@ use Rattle.turn_lock.specs.declared.known.Numbers.{Numbers}
 use Rattle.turn_lock.specs.Numbers.{has}
 
 module _ {E : Type 0} where
+  -- an entry, signed by its maker's number
   abbrev pub line : ℕ → E → Line E
   line n e = record { by = n; entry = e }
 

@@ -6,9 +6,11 @@ use Rattle.turn_lock.specs.declared.known.Numbers.TheVariants.{Only}
 use Rattle.turn_lock.specs.Numbers.{without, together}
 use Rattle.turn_lock.specs.Book.{line, longer, GoesOn, StandsFor}
 
+-- what a seat knows, and the slots that are out with it
 abbrev pub Sat : Type 0 → Type 0 → Type 0
 Sat S E = Me (Option S) (Known S E)
 
+-- where the step is made
 abbrev pub At : Type 0 → Type 0
 At S = Step (Option S)
 
@@ -30,6 +32,7 @@ module _ {S E : Type 0} where
   abbrev pub appended : Known S E → E → Known S E
   appended v e = record v { seen = v.seen ++ line v.number e ∷ []; mine = v.mine ++ e ∷ [] }
 
+  -- the seat has made the entry that was picked
   abbrev pub wrote : Option E → At S → Sat S E → ℕ → Sat S E → Type 0
   wrote entry step old found new = (e : E) → entry ≡ Some e → new ≡ (appended old.0 e, old.1)
 
@@ -42,10 +45,11 @@ module _ {S E : Type 0} where
   glanced step old found new =
       (new.1 ≡ old.1) × (new.0 ≡ record old.0 { seen = new.0.seen }) × GoesOn old.0.held old.0.seen new.0.seen × (found ≡ length new.0.seen)
 
-  -- what a seat keeps that gives a number away, and what the seat knows that gets it
+  -- what a seat knows that has given a number away
   abbrev pub giving : ℕ → Known S E → Known S E
   giving n v = record v { held = without v.held n }
 
+  -- what the new seat knows that gets the number
   abbrev pub given : ℕ → Known S E → Known S E
   given n v = record { first = v.first; number = n; held = Only (n ∷ []); seen = v.seen; mine = []; entered = false; met = []; met_held = Only [] }
 
@@ -57,6 +61,7 @@ module _ {S E : Type 0} where
   abbrev pub settling : Known S E → Known S E
   settling v = record v { seen = longer v.seen v.met; held = together v.held v.met_held; met = []; met_held = Only [] }
 
+  -- the seat has settled which of the two lists is the longer
   abbrev pub settled : At S → Sat S E → ℕ → Sat S E → Type 0
   settled step old found new =
       (new ≡ (settling old.0, old.1)) × GoesOn old.0.held old.0.seen new.0.seen × GoesOn old.0.met_held old.0.met new.0.seen

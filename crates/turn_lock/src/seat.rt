@@ -10,7 +10,9 @@ pub(crate) type Place<S> = atomic_table::Seat<Option<S>, Known<S, <S as Booked>:
 
 /// A seat at a lock. It has no bytes, and may go to another thread.
 ///
-/// It has a number of its own, holds some numbers, knows a beginning of the book, and is entered or not.
+/// To a contract it is its lock, its own number, the numbers that it holds, the beginning of the book that it has seen,
+/// the entries that it made itself, and whether it is entered. While it holds a number, no other seat can make an entry
+/// of that number. A seat that is dropped keeps its numbers for good, and one that is entered the turn.
 #[derive(Drop)]
 pub struct Seat<S: Booked> {
     pub(crate) place: Place<S>,

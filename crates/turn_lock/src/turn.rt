@@ -16,7 +16,10 @@ use std::marker::{Brand, Model};
 use std::snapshot::Snapshot;
 use std::sync::Wait;
 
-/// A lock with a book of entries. Who enters is handed the state, which stands for the whole book.
+/// A lock with a book of entries, which only grows. Who enters is handed the state, which stands for the whole book.
+///
+/// To a contract it is which lock it is, and the state that it was made with. What two seats have seen are beginnings of
+/// one book.
 #[derive(Drop)]
 pub struct Turn<S: Booked> {
     table: Table<Option<S>, Known<S, S::Entry>, Snapshot<S>, ByTheBook, Global>,
@@ -53,6 +56,9 @@ impl<S: Booked> Turn<S> {
     }
 
     /// Waits for the turn and takes the state, which stands for the whole book. The seat has then seen the book.
+    ///
+    /// Where nobody has the turn this is one exchange of a word. Else the thread spins and yields for a little, and then
+    /// sleeps until another one leaves.
     pub fn enter<T: Wait>(&self, rt: &T, seat: &mut Seat<S>) -> S
         requires lock { seat.old.lock ≡ self.now }
         requires outside { IsFalse seat.old.entered }
@@ -66,7 +72,8 @@ impl<S: Booked> Turn<S> {
         board.exchange(&mut seat.place, STATE, None).unwrap()
     }
 
-    /// Adds the next entry of the state's list to the book: the first that the seat has not seen.
+    /// Adds the next entry of the state's list to the book: the first that the seat has not seen. It is then one of the
+    /// seat's own.
     pub fn append(&self, seat: &mut Seat<S>, state: &S)
         requires lock { seat.old.lock ≡ self.now }
         requires entered { IsTrue seat.old.entered }
@@ -126,7 +133,7 @@ impl<S: Booked> Turn<S> {
         self.table.shared.load::<Glance>(&mut seat.place, LENGTH)
     }
 
-    /// Ends the lock. The seat holds all numbers, so it has seen the whole book, and the state stands for it.
+    /// Ends the lock and gives its state back. The seat holds all numbers, so what it has seen is the whole book.
     pub fn close(self, seat: Seat<S>) -> S
         requires lock { seat.lock ≡ self }
         requires outside { IsFalse seat.entered }
