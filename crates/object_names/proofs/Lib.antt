@@ -1,0 +1,6 @@
+pub mod ComponentLemmas
+pub mod EndLemmas
+pub mod EntryLemmas
+pub mod PathLemmas
+pub mod ShownLemmas
+pub mod SlowLemmas

@@ -1,0 +1,14 @@
+//! Names of files and directories over a bucket's flat names: components, paths, the suffix, and what a directory shows.
+#![tactic(auto)]
+
+mod component;
+mod path;
+mod shown;
+mod slow;
+#[cfg(test)]
+mod tests;
+
+pub use component::{Component, NameFault};
+pub use path::{PathFault, dir_prefix, join};
+pub use shown::{DirItem, NodeKind, shown_name, strip_suffix};
+pub use slow::slow_entries;
