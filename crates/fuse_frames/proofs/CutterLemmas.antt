@@ -6,10 +6,10 @@ use Rattle.std.specs.Prelude.{All}
 use Rattle.std.proofs.lemmas.List.{append-nil, append_assoc, drop_at, length-append, length-take, length-take-le, take-append-le, take_at}
 use Rattle.std.proofs.lemmas.List.Elements.{All-append, All-drop, All-nil, All-same, All-take}
 use Rattle.fuse_head.specs.Head.{IsWholeFrame}
-use Rattle.fuse_frames.specs.Cut.{Cuts, IsBad, IsBelow40, IsOver, Keeps}
+use Rattle.fuse_frames.specs.Cut.{Cuts, IsBad, IsBelow40, IsOver, IsSound, Keeps}
 use Rattle.fuse_frames.specs.Cutter.{Cutter, Fed, Feeds, fed, fresh, gave_after, Gives, GivesFrame, HasRead, HasStopped, pending, place, StopsAt, stream_after}
 use Rattle.fuse_frames.proofs.CutLemmas.{concat-append, cuts_unique}
-use Rattle.fuse_frames.proofs.FrontLemmas.{bad_append, bad_told, concat-push, len-take, sound_not_bad, take_bad, unfinished_bad, unfinished_untold}
+use Rattle.fuse_frames.proofs.FrontLemmas.{bad_append, bad_told, below_take, concat-push, len-take, over_take, sound_not_bad, take_bad, unfinished_bad, unfinished_untold}
 use Rattle.fuse_frames.specs.declared.fault.CutFault.{CutFault}
 use Rattle.fuse_frames.specs.declared.fault.CutFault.TheVariants.{LenBelow40, LenOver, NoMemory, Truncated}
 
@@ -212,4 +212,30 @@ has_read_whole {stream} {gave} {cutter} read none =
     elim read.kept [
       | inl kept ↦ read.cut.joined ∙ ap (λ (b : List ℕ). concat (gave ++ cutter.held) ++ b) (sym kept.1 ∙ none) ∙ append-nil (concat (gave ++ cutter.held))
       | inr kept ↦ absurd (omega (arith, bad_told read.rest kept.0, length-take-le 4 read.rest (bad_told read.rest kept.0), ap length (sym kept.1 ∙ none)))
+    ]
+
+-- where no bad len was met, the cutter's own rest is that of the stream
+pub has_read_cut : {stream : List ℕ} {gave : List (List ℕ)} {cutter : Cutter} → HasRead stream gave cutter → IsSound cutter.rest
+    → Cuts stream (gave ++ cutter.held) cutter.rest
+has_read_cut {stream} {gave} {cutter} read sound =
+    elim read.kept [
+      | inl kept ↦ let P : List ℕ → Type 0 = λ rest. Cuts stream (gave ++ cutter.held) rest in subst P (sym kept.1) read.cut
+      | inr kept ↦ absurd (sound_not_bad cutter.rest sound (rw kept.1 (take_bad read.rest kept.0)))
+    ]
+
+-- where one was met, the rest of the stream begins with it
+pub has_read_below : {stream : List ℕ} {gave : List (List ℕ)} {cutter : Cutter} → HasRead stream gave cutter → IsBelow40 cutter.rest
+    → (rest : List ℕ) × Cuts stream (gave ++ cutter.held) rest × IsBelow40 rest
+has_read_below {stream} {gave} {cutter} read below =
+    elim read.kept [
+      | inl kept ↦ absurd (sound_not_bad read.rest kept.0 (inl (rw kept.1 at below)))
+      | inr kept ↦ (read.rest, read.cut, below_take read.rest (rw kept.1 at below))
+    ]
+
+pub has_read_over : {stream : List ℕ} {gave : List (List ℕ)} {cutter : Cutter} → HasRead stream gave cutter → IsOver cutter.rest
+    → (rest : List ℕ) × Cuts stream (gave ++ cutter.held) rest × IsOver rest
+has_read_over {stream} {gave} {cutter} read over =
+    elim read.kept [
+      | inl kept ↦ absurd (sound_not_bad read.rest kept.0 (inr (rw kept.1 at over)))
+      | inr kept ↦ (read.rest, read.cut, over_take read.rest (rw kept.1 at over))
     ]

@@ -1,4 +1,5 @@
--- How a stream of bytes is cut into request frames, all of it at once.
+-- How a stream of bytes is cut into request frames, all of it at once: each request of Linux fuse.h begins with the
+-- number of its bytes.
 use Rattle.std.specs.Prelude.{◌≡◌, ◌<◌, ◌≤◌, ◌++◌, ◌⊎◌, ℕ, List, All, length, take}
 use Rattle.std.specs.List.{concat}
 use Rattle.fuse_head.specs.Head.{IsWholeFrame}
