@@ -1,5 +1,5 @@
 -- A body of each kind of layout is read back from its text.
-use Rattle.std.proofs.Common.{◌≡◌, ◌+◌, ◌<◌, ◌≤◌, ◌^◌, ℕ, List, [], ◌∷◌, ◌++◌, Ok, length, refl, ap, ◌∙◌}
+use Rattle.std.proofs.Common.{◌≡◌, ℕ, List, [], ◌++◌, Ok, length, refl}
 use Rattle.std.specs.List.{AllByRecursion}
 use Rattle.fuse_head.specs.Little.{u32_at}
 use Rattle.fuse_requests.specs.declared.request.Forgotten.{Forgotten}

@@ -1,9 +1,9 @@
 -- Laws of the text of a fixed part: its length, and its fields read back.
-use Rattle.std.proofs.Common.{◌≡◌, ◌+◌, ◌<◌, ◌≤◌, ◌^◌, ℕ, List, [], ◌∷◌, ◌++◌, Ok, length, suc, take, drop, refl, ap, sym, ◌∙◌, append_assoc, arith, nat_lt, false}
-use Rattle.std.proofs.lemmas.List.{append-nil, drop_at, length-append}
+use Rattle.std.proofs.Common.{◌≡◌, ◌+◌, ◌<◌, ◌≤◌, ◌^◌, ℕ, List, [], ◌∷◌, ◌++◌, Ok, length, suc, take, drop, refl, ap, ◌∙◌, append_assoc, arith, nat_lt, false}
+use Rattle.std.proofs.lemmas.List.{drop_at, length-append}
 use Rattle.std.proofs.lemmas.Bool.{le-ltb}
 use Rattle.std.proofs.lemmas.Grind.{flat_map-append}
-use Rattle.fuse_head.specs.Little.{u32_at, u32_bytes, u64_at, u64_bytes}
+use Rattle.fuse_head.specs.Little.{u32_at, u64_at}
 use Rattle.fuse_head.proofs.LittleLemmas.{length-u32_bytes, length-u64_bytes, u32_at-field, u64_at-field}
 use Rattle.fuse_requests.specs.Parts.{after_fixed}
 use Rattle.fuse_requests.specs.Layout.{Field, w32, w64, field_bytes, fields_text}

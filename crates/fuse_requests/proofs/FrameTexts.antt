@@ -1,5 +1,5 @@
 -- Laws of the text of a whole frame: its length is told at its front, and its head is read back.
-use Rattle.std.proofs.Common.{◌≡◌, ◌+◌, ◌<◌, ◌≤◌, ◌^◌, ℕ, List, [], ◌∷◌, ◌++◌, Ok, length, drop, refl, ap, sym, ◌∙◌, append_assoc, arith, lit<}
+use Rattle.std.proofs.Common.{◌≡◌, ◌+◌, ◌<◌, ◌^◌, ℕ, List, ◌++◌, length, drop, ap, sym, ◌∙◌, append_assoc, arith, lit<}
 use Rattle.std.proofs.lemmas.List.{drop_at, length-append}
 use Rattle.fuse_head.specs.declared.in_head.InHead.{InHead}
 use Rattle.fuse_head.specs.Head.{in_head, in_head_text, IsHead, IsWholeFrame}

@@ -1,3 +1,4 @@
+-- Laws of the texts of requests: each part is read back, and so is the whole.
 pub mod PairLemmas
 pub mod PairTexts
 pub mod FieldTexts

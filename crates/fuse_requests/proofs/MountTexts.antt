@@ -1,5 +1,5 @@
 -- Each request that speaks of the whole mount, or takes look-ups back, is read back from the text of its body.
-use Rattle.std.proofs.Common.{◌≡◌, ◌+◌, ◌<◌, ◌≤◌, ◌^◌, ℕ, List, [], ◌∷◌, ◌++◌, Ok, length, refl, ap, ◌∙◌, arith}
+use Rattle.std.proofs.Common.{◌≡◌, ◌<◌, ◌^◌, ℕ, List, [], Ok, length, refl, ap, ◌∙◌}
 use Rattle.fuse_head.specs.Little.{u32_at, u64_at}
 use Rattle.std.specs.List.{AllByRecursion}
 use Rattle.io_ports.specs.RowItems.{RowItems}

@@ -1,5 +1,5 @@
 -- Each request that carries names is read back from the text of its body.
-use Rattle.std.proofs.Common.{◌≡◌, ◌+◌, ◌<◌, ◌≤◌, ◌^◌, ℕ, List, [], ◌∷◌, ◌++◌, Ok, length, refl, ap, ◌∙◌, arith}
+use Rattle.std.proofs.Common.{◌≡◌, ◌<◌, ◌^◌, ℕ, List, [], ◌++◌, Ok, refl, ap, ◌∙◌}
 use Rattle.fuse_head.specs.Little.{u32_at, u64_at}
 use Rattle.fuse_requests.specs.declared.request.Request.TheVariants.{Lookup, Symlink, Mknod, Mkdir, Unlink, Rmdir, Rename, Create, Rename2}
 use Rattle.fuse_requests.specs.Layout.{read_body}

@@ -1,13 +1,11 @@
 -- Each request that speaks of a node or a handle is read back from the text of its body.
-use Rattle.std.proofs.Common.{◌≡◌, ◌+◌, ◌<◌, ◌≤◌, ◌^◌, ℕ, List, [], ◌∷◌, ◌++◌, Ok, length, refl, ap, ◌∙◌, arith}
+use Rattle.std.proofs.Common.{◌≡◌, ◌<◌, ◌^◌, ℕ, List, [], Ok, length, refl, ap, ◌∙◌}
 use Rattle.fuse_head.specs.Little.{u32_at, u64_at}
-use Rattle.std.proofs.lemmas.List.{length-append}
-use Rattle.fuse_requests.specs.declared.request.Request.{Request}
 use Rattle.fuse_requests.specs.declared.request.Request.TheVariants.{Getattr, Setattr, Readlink, Opening, Read, Write, Release, Fsync, Flush, Opendir, Readdir, Releasedir, Fsyncdir}
-use Rattle.fuse_requests.specs.Layout.{read_body, fields_text, alone, Field, w32, w64}
+use Rattle.fuse_requests.specs.Layout.{read_body}
 use Rattle.fuse_requests.specs.Nodes.{getattr, getattr_in, setattr, setattr_in, readlink, opening, opendir, open_in, reading, readdir, writing, read_in, release, releasedir, release_in, fsync, fsyncdir, fsync_in, flush, flush_in}
 use Rattle.fuse_requests.specs.Text.{body_text}
-use Rattle.fuse_requests.proofs.FieldTexts.{fields_len, word_of, long_of, two, three, four}
+use Rattle.fuse_requests.proofs.FieldTexts.{word_of, long_of, two, three, four}
 use Rattle.fuse_requests.proofs.BodyTexts.{alone-text, filled-text}
 
 pub getattr-text : (node : ℕ) → read_body (getattr node) (body_text (Getattr node)) ≡ Ok (Getattr node)

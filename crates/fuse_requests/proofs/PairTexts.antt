@@ -1,5 +1,5 @@
 -- How long the text of pairs is.
-use Rattle.std.proofs.Common.{◌≡◌, ◌+◌, ◌*◌, ℕ, List, [], ◌∷◌, ◌++◌, length, refl, arith}
+use Rattle.std.proofs.Common.{◌≡◌, ◌*◌, List, [], ◌∷◌, length, refl, arith}
 use Rattle.std.proofs.lemmas.List.{length-append}
 use Rattle.fuse_head.specs.Little.{u64_bytes}
 use Rattle.fuse_head.proofs.LittleLemmas.{length-u64_bytes}

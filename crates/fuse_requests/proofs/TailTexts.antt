@@ -1,8 +1,8 @@
 -- Laws of what stands behind a fixed part: names, a content and pairs, read back from their texts.
-use Rattle.std.proofs.Common.{◌≡◌, ◌+◌, ◌*◌, ◌<◌, ◌≤◌, ◌^◌, ℕ, List, [], ◌∷◌, ◌++◌, Bool, true, false, Ok, Some, length, take, drop, refl, ap, sym, ◌∙◌, append_assoc, arith, nat_lt, nat_eq, ◌||◌, not}
-use Rattle.std.proofs.lemmas.List.{append-nil, drop_at, drop_all, take_at, take_all, length-append}
+use Rattle.std.proofs.Common.{◌≡◌, ◌+◌, ◌*◌, ◌<◌, ℕ, List, [], ◌∷◌, ◌++◌, true, false, Ok, Some, length, take, drop, refl, ap, sym, ◌∙◌, append_assoc, arith, nat_lt, nat_eq}
+use Rattle.std.proofs.lemmas.List.{drop_at, drop_all, take_at, take_all, length-append}
 use Rattle.std.proofs.lemmas.Bool.{le-ltb, lt-ltb, eq-eqb}
-use Rattle.std.specs.List.{list_any, position, position_or_len, AllByRecursion}
+use Rattle.std.specs.List.{position, position_or_len, AllByRecursion}
 use Rattle.fuse_head.specs.Little.{u64_at, u64_bytes}
 use Rattle.fuse_head.proofs.LittleLemmas.{length-u64_bytes, u64_at-bytes, u64_at-field}
 use Rattle.fuse_requests.specs.declared.request.Forgotten.{Forgotten}

@@ -1,5 +1,5 @@
 -- When a request can be written, for whoever makes one.
-use Rattle.std.proofs.Common.{◌≡◌, ◌+◌, ◌≤◌, ℕ, length, arith, lit≤}
+use Rattle.std.proofs.Common.{◌≤◌, length, arith, lit≤}
 use Rattle.std.proofs.lemmas.List.{length-append}
 use Rattle.fuse_requests.specs.declared.request.Request.{Request}
 use Rattle.fuse_requests.specs.declared.request.Request.TheVariants.{Lookup, Forget, Getattr, Setattr, Readlink, Symlink, Mknod, Mkdir, Unlink, Rmdir, Rename, Opening, Read, Write, Statfs, Release, Fsync, Flush, Init, Opendir, Readdir, Releasedir, Fsyncdir, Create, Interrupt, Destroy, BatchForget, Rename2, Unknown}

@@ -2,7 +2,6 @@
 use Rattle.std.specs.Prelude.{ℕ, List, Result, Ok}
 use Rattle.fuse_head.specs.Little.{u32_at, u32_bytes, u64_bytes}
 use Rattle.std.specs.List.{flat_map}
-use Rattle.io_ports.specs.RowItems.{RowItems}
 use Rattle.fuse_requests.specs.declared.fault.BodyFault.{BodyFault}
 use Rattle.fuse_requests.specs.declared.request.Forgotten.{Forgotten}
 use Rattle.fuse_requests.specs.declared.request.Request.{Request}

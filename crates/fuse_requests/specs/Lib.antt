@@ -1,3 +1,4 @@
+-- The grammar of request frames, both ways.
 pub mod Parts
 pub mod Layout
 pub mod Naming

@@ -1,6 +1,6 @@
 -- The parts of a request's body, each read at the front of bytes: what it is, or the first fault there.
 use Rattle.std.specs.Prelude.{◌≡◌, ◌+◌, ◌*◌, ◌==◌, ℕ, Bool, zero, suc, List, [], ◌∷◌, Option, None, Some, Result, Ok, Err, length, take, drop, nat_lt, position, if◌then◌else◌}
-use Rattle.fuse_head.specs.Little.{u32_at, u64_at}
+use Rattle.fuse_head.specs.Little.{u64_at}
 use Rattle.fuse_requests.specs.declared.fault.BodyFault.{BodyFault}
 use Rattle.fuse_requests.specs.declared.fault.BodyFault.TheVariants.{NoMemory, Short, NoZeroByte, LongTail, BadCount}
 use Rattle.fuse_requests.specs.declared.request.Forgotten.{Forgotten}

@@ -1,7 +1,6 @@
 -- The count of pairs fits, since the frame does.
-use Rattle.std.proofs.Common.{◌≡◌, ◌≤◌, ◌*◌, ◌++◌, List, OnOk, length, subst, sym, arith}
+use Rattle.std.proofs.Common.{◌≤◌, length, subst, arith}
 use Rattle.fuse_requests.specs.declared.request.Request.{Request}
-use Rattle.fuse_requests.specs.Layout.{Field, fields_text}
 use Rattle.fuse_requests.specs.Text.{spelling}
 use Rattle.fuse_requests.proofs.PairTexts.{length-pairs_text}
 use Rattle.fuse_requests.proofs.fixed.push_fixed.Goals as goal

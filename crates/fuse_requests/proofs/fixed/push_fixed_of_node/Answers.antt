@@ -1,5 +1,5 @@
 -- A fixed part as long as SETATTR's is too long for the search.
-use Rattle.std.proofs.Common.{◌≡◌, ◌≤◌, ◌*◌, ◌++◌, List, OnOk, length, subst, sym, arith}
+use Rattle.std.proofs.Common.{◌≡◌, ◌++◌, List, OnOk, subst, sym}
 use Rattle.fuse_requests.specs.declared.request.Request.{Request}
 use Rattle.fuse_requests.specs.Layout.{Field, fields_text}
 use Rattle.fuse_requests.specs.Text.{spelling}

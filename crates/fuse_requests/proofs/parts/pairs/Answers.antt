@@ -1,5 +1,5 @@
 -- The pair at the front of what is left is the next of all.
-use Rattle.std.proofs.Common.{◌≡◌, arith}
+use Rattle.std.proofs.Common.{arith}
 use Rattle.fuse_requests.specs.Parts.{pairs_of}
 use Rattle.fuse_requests.proofs.PairLemmas.{pairs_of-step}
 use Rattle.fuse_requests.proofs.parts.pairs.Goals as goal

@@ -1,7 +1,5 @@
 -- A pair has 16 bytes.
-use Rattle.std.proofs.Common.{◌≡◌, ◌*◌, ℕ, List, length, ap, sym, ◌∙◌}
-use Rattle.fuse_requests.specs.declared.request.Forgotten.{Forgotten}
-use Rattle.fuse_requests.specs.Text.{spelling}
+use Rattle.std.proofs.Common.{sym}
 use Rattle.fuse_requests.proofs.PairTexts.{length-pairs_text}
 use Rattle.fuse_requests.proofs.tail.tail_len.Goals as goal
 

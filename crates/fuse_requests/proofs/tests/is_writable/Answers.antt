@@ -1,5 +1,5 @@
 -- Names as they must be, and a short tail.
-use Rattle.std.proofs.Common.{◌≡◌, arith}
+use Rattle.std.proofs.Common.{arith}
 use Rattle.fuse_requests.proofs.Writable.{writable}
 use Rattle.fuse_requests.proofs.tests.is_writable.Goals as goal
 

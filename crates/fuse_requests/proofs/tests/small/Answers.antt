@@ -1,5 +1,5 @@
 -- A pair has 16 bytes.
-use Rattle.std.proofs.Common.{◌≡◌, ◌≤◌, length, arith}
+use Rattle.std.proofs.Common.{arith}
 use Rattle.std.proofs.lemmas.Bool.Decides.{nat_tests}
 use Rattle.fuse_requests.proofs.PairTexts.{length-pairs_text}
 use Rattle.fuse_requests.proofs.tests.small.Goals as goal

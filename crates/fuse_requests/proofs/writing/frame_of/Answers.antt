@@ -1,5 +1,5 @@
 -- The frame's length is told at its front once the frame is there.
-use Rattle.std.proofs.Common.{◌≡◌, ◌∙◌, arith}
+use Rattle.std.proofs.Common.{◌∙◌, arith}
 use Rattle.fuse_requests.proofs.FrameTexts.{length-parts, told_len}
 use Rattle.fuse_requests.proofs.writing.frame_of.Goals as goal
 

@@ -1,5 +1,4 @@
 -- The frame is the request's text, whose laws say the rest.
-use Rattle.std.proofs.Common.{◌≡◌}
 use Rattle.fuse_requests.proofs.FrameTexts.{whole-request_text, unique-request_text}
 use Rattle.fuse_requests.proofs.RequestTexts.{read-request_text}
 use Rattle.fuse_requests.proofs.writing.write_request.Goals as goal
