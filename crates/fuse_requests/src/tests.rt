@@ -27,7 +27,7 @@ const SETATTR: [u8; 88] = [
     0, 0, 0, 0, 0, 0, 0, 0, // gid, padding
 ];
 
-/// READ, WRITE and READDIR with fh 0x37363534_33323130, offset 0x47464544_43424140 and size 3.
+/// READ and READDIR with fh 0x37363534_33323130, offset 0x47464544_43424140 and size 3.
 const READ: [u8; 40] = [
     0x30, 0x31, 0x32, 0x33, 0x34, 0x35, 0x36, 0x37, // fh
     0x40, 0x41, 0x42, 0x43, 0x44, 0x45, 0x46, 0x47, // offset
@@ -237,104 +237,109 @@ fn fixed(
 }
 
 #[test]
-fn names_stand_behind_the_fixed_part(rt: HostRuntime) -> Result<(), Fail> {
+fn a_lookup_is_a_name(rt: HostRuntime) -> Result<(), Fail> {
     let alloc = rt.alloc();
     let name = Bytes::of(alloc, b"foo")?;
-    named(
-        &rt,
-        alloc,
-        &Request::Lookup { node: NODE, name },
-        1,
-        b"foo\0",
-    )?;
+    let request = Request::Lookup { node: NODE, name };
+    named(&rt, alloc, &request, 1, b"foo\0")
+}
+
+#[test]
+fn a_mknod_has_its_mode_before_the_name(rt: HostRuntime) -> Result<(), Fail> {
+    let alloc = rt.alloc();
     let name = Bytes::of(alloc, b"fifo")?;
-    let mode = 0x3332_3130;
+    let request = Request::Mknod {
+        node: NODE,
+        mode: 0x3332_3130,
+        name,
+    };
     named(
         &rt,
         alloc,
-        &Request::Mknod {
-            node: NODE,
-            mode,
-            name,
-        },
+        &request,
         8,
         b"0123\0\0\0\0\0\0\0\0\0\0\0\0fifo\0",
-    )?;
+    )
+}
+
+#[test]
+fn a_mkdir_has_its_name_at_8(rt: HostRuntime) -> Result<(), Fail> {
+    let alloc = rt.alloc();
     let name = Bytes::of(alloc, b"d")?;
-    named(
-        &rt,
-        alloc,
-        &Request::Mkdir { node: NODE, name },
-        9,
-        b"\0\0\0\0\0\0\0\0d\0",
-    )?;
+    let request = Request::Mkdir { node: NODE, name };
+    named(&rt, alloc, &request, 9, b"\0\0\0\0\0\0\0\0d\0")
+}
+
+#[test]
+fn an_unlink_may_have_an_empty_name(rt: HostRuntime) -> Result<(), Fail> {
+    let alloc = rt.alloc();
     let name = Bytes::of(alloc, b"")?;
-    named(&rt, alloc, &Request::Unlink { node: NODE, name }, 10, b"\0")?;
+    let request = Request::Unlink { node: NODE, name };
+    named(&rt, alloc, &request, 10, b"\0")
+}
+
+#[test]
+fn an_rmdir_may_have_any_bytes(rt: HostRuntime) -> Result<(), Fail> {
+    let alloc = rt.alloc();
     let name = Bytes::of(alloc, b"\xff/")?;
-    named(
-        &rt,
-        alloc,
-        &Request::Rmdir { node: NODE, name },
-        11,
-        b"\xff/\0",
-    )?;
+    let request = Request::Rmdir { node: NODE, name };
+    named(&rt, alloc, &request, 11, b"\xff/\0")
+}
+
+#[test]
+fn a_create_has_its_name_at_16(rt: HostRuntime) -> Result<(), Fail> {
+    let alloc = rt.alloc();
     let name = Bytes::of(alloc, b"new")?;
+    let request = Request::Create { node: NODE, name };
     named(
         &rt,
         alloc,
-        &Request::Create { node: NODE, name },
+        &request,
         35,
         b"\0\0\0\0\0\0\0\0\0\0\0\0\0\0\0\0new\0",
     )
 }
 
 #[test]
-fn two_names_stand_one_after_the_other(rt: HostRuntime) -> Result<(), Fail> {
+fn a_symlink_has_its_target_behind_its_name(rt: HostRuntime) -> Result<(), Fail> {
     let alloc = rt.alloc();
     let name = Bytes::of(alloc, b"l")?;
     let target = Bytes::of(alloc, b"to/x")?;
-    named(
-        &rt,
-        alloc,
-        &Request::Symlink {
-            node: NODE,
-            name,
-            target,
-        },
-        6,
-        b"l\0to/x\0",
-    )?;
-    let newdir = 0x3736_3534_3332_3130;
+    let request = Request::Symlink {
+        node: NODE,
+        name,
+        target,
+    };
+    named(&rt, alloc, &request, 6, b"l\0to/x\0")
+}
+
+#[test]
+fn a_rename_has_two_names(rt: HostRuntime) -> Result<(), Fail> {
+    let alloc = rt.alloc();
     let name = Bytes::of(alloc, b"old")?;
     let newname = Bytes::of(alloc, b"new")?;
-    named(
-        &rt,
-        alloc,
-        &Request::Rename {
-            node: NODE,
-            newdir,
-            name,
-            newname,
-        },
-        12,
-        b"01234567old\0new\0",
-    )?;
-    let flags = 0x4342_4140;
+    let request = Request::Rename {
+        node: NODE,
+        newdir: 0x3736_3534_3332_3130,
+        name,
+        newname,
+    };
+    named(&rt, alloc, &request, 12, b"01234567old\0new\0")
+}
+
+#[test]
+fn a_rename2_has_flags_before_its_names(rt: HostRuntime) -> Result<(), Fail> {
+    let alloc = rt.alloc();
     let name = Bytes::of(alloc, b"old")?;
     let newname = Bytes::of(alloc, b"new")?;
-    named(
-        &rt,
-        alloc,
-        &Request::Rename2 {
-            node: NODE,
-            newdir,
-            flags,
-            name,
-            newname,
-        },
-        45,
-        b"01234567@ABC\0\0\0\0old\0new\0",
-    )
+    let request = Request::Rename2 {
+        node: NODE,
+        newdir: 0x3736_3534_3332_3130,
+        flags: 0x4342_4140,
+        name,
+        newname,
+    };
+    named(&rt, alloc, &request, 45, b"01234567@ABC\0\0\0\0old\0new\0")
 }
 
 #[test]
@@ -349,61 +354,78 @@ fn requests_of_a_node_have_the_kernel_s_layouts(rt: HostRuntime) -> Result<(), F
         b"01234567",
     )?;
     fixed(&rt, alloc, &Request::Getattr { node: NODE }, 3, &[0; 16])?;
-    let setattr = Request::Setattr {
+    fixed(&rt, alloc, &Request::Readlink { node: NODE }, 5, b"")?;
+    fixed(&rt, alloc, &Request::Opendir { node: NODE }, 27, &[0; 8])
+}
+
+#[test]
+fn an_open_keeps_its_flags(rt: HostRuntime) -> Result<(), Fail> {
+    let alloc = rt.alloc();
+    let request = Request::Opening {
+        node: NODE,
+        flags: 0x3332_3130,
+    };
+    fixed(&rt, alloc, &request, 14, b"0123\0\0\0\0")
+}
+
+#[test]
+fn a_setattr_keeps_what_is_set(rt: HostRuntime) -> Result<(), Fail> {
+    let alloc = rt.alloc();
+    let request = Request::Setattr {
         node: NODE,
         valid: 0x3332_3130,
         size: 0x4746_4544_4342_4140,
         mtime: 0x5756_5554_5352_5150,
         nanos: 0x6362_6160,
     };
-    fixed(&rt, alloc, &setattr, 4, &SETATTR)?;
-    fixed(&rt, alloc, &Request::Readlink { node: NODE }, 5, b"")?;
-    fixed(
-        &rt,
-        alloc,
-        &Request::Opening {
-            node: NODE,
-            flags: 0x3332_3130,
-        },
-        14,
-        b"0123\0\0\0\0",
-    )?;
-    fixed(&rt, alloc, &Request::Opendir { node: NODE }, 27, &[0; 8])
+    fixed(&rt, alloc, &request, 4, &SETATTR)
 }
 
 #[test]
-fn requests_of_a_handle_have_the_kernel_s_layouts(rt: HostRuntime) -> Result<(), Fail> {
+fn a_read_is_of_a_handle(rt: HostRuntime) -> Result<(), Fail> {
     let alloc = rt.alloc();
-    let read = Request::Read {
+    let request = Request::Read {
         node: NODE,
         fh: FH,
         first: FIRST,
         size: 3,
     };
-    fixed(&rt, alloc, &read, 15, &READ)?;
-    let readdir = Request::Readdir {
+    fixed(&rt, alloc, &request, 15, &READ)
+}
+
+#[test]
+fn a_readdir_is_of_a_handle(rt: HostRuntime) -> Result<(), Fail> {
+    let alloc = rt.alloc();
+    let request = Request::Readdir {
         node: NODE,
         fh: FH,
         first: FIRST,
         size: 3,
     };
-    fixed(&rt, alloc, &readdir, 28, &READ)?;
+    fixed(&rt, alloc, &request, 28, &READ)
+}
+
+/// READ's fixed part, and three bytes.
+const WRITE: [u8; 43] = [
+    0x30, 0x31, 0x32, 0x33, 0x34, 0x35, 0x36, 0x37, // fh
+    0x40, 0x41, 0x42, 0x43, 0x44, 0x45, 0x46, 0x47, // offset
+    3, 0, 0, 0, 0, 0, 0, 0, // size, write_flags
+    0, 0, 0, 0, 0, 0, 0, 0, // lock_owner
+    0, 0, 0, 0, 0, 0, 0, 0, // flags, padding
+    b'a', 0, b'c', // content
+];
+
+#[test]
+fn a_write_has_its_content_behind_its_size(rt: HostRuntime) -> Result<(), Fail> {
+    let alloc = rt.alloc();
     let content = Bytes::of(alloc, b"a\0c")?;
-    let mut body = Vec::from_slice(alloc, &READ)?;
-    body.extend_from_slice(b"a\0c")?;
-    fixed(
-        &rt,
-        alloc,
-        &Request::Write {
-            node: NODE,
-            fh: FH,
-            first: FIRST,
-            content,
-        },
-        16,
-        &body,
-    )?;
-    Ok(())
+    let request = Request::Write {
+        node: NODE,
+        fh: FH,
+        first: FIRST,
+        content,
+    };
+    fixed(&rt, alloc, &request, 16, &WRITE)
 }
 
 #[test]
@@ -452,14 +474,19 @@ fn requests_of_the_mount_name_no_node(rt: HostRuntime) -> Result<(), Fail> {
     both_ways(&rt, alloc, &Request::Statfs, 17, 0, b"")?;
     both_ways(&rt, alloc, &Request::Destroy, 38, 0, b"")?;
     both_ways(&rt, alloc, &Request::Interrupt, 36, 0, &[0; 8])?;
-    let init = Request::Init {
+    both_ways(&rt, alloc, &Request::Unknown { opcode: 44 }, 44, 0, b"")
+}
+
+#[test]
+fn an_init_tells_a_version_and_an_offer(rt: HostRuntime) -> Result<(), Fail> {
+    let alloc = rt.alloc();
+    let request = Request::Init {
         major: 0x3332_3130,
         minor: 0x3736_3534,
         readahead: 0x4342_4140,
         flags: 0x4746_4544,
     };
-    both_ways(&rt, alloc, &init, 26, 0, b"01234567@ABCDEFG")?;
-    both_ways(&rt, alloc, &Request::Unknown { opcode: 44 }, 44, 0, b"")
+    both_ways(&rt, alloc, &request, 26, 0, b"01234567@ABCDEFG")
 }
 
 #[test]
