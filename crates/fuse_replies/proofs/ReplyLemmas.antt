@@ -65,3 +65,5 @@ plain-silent Empty sent = λ e. absurd cc
 plain-silent Silent sent = λ e. absurd (sent refl)
 
 pub ruleset body_lengths = (length-append, length-attr_out_text, length-entry_text, length-init_text, length-open_text, length-statfs_text, length-waits_text, length-written_text)
+
+pub ruleset silent_frames = (frame_of-silent)

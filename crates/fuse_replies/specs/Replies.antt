@@ -40,7 +40,7 @@ abbrev pub errno_of : Reply → ℕ
 errno_of (Error errno) = errno
 errno_of reply = 0
 
--- THE TEXT OF A REPLY: the head with the length of the whole, the error and the request's unique, and the body;
+-- The text of a reply: the head with the length of the whole, the error and the request's unique, and the body;
 -- nothing for `Silent`
 unfoldable pub frame_of : ℕ → Reply → List ℕ
 frame_of unique Silent = []

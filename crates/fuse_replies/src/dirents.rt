@@ -149,13 +149,9 @@ fn next_dirent(alloc: Global, bytes: &[u8]) -> Result<(Dirent, &[u8]), ReplyFaul
     let Some((name, rest)) = split_name(rest, front.namelen) else {
         return Err(ReplyFault::Malformed);
     };
-    match text_of(alloc, name) {
-        Ok(name) => {
-            let DirentFront { off, kind, .. } = front;
-            Ok((Dirent { off, kind, name }, rest))
-        }
-        Err(fault) => Err(fault),
-    }
+    let name = text_of(alloc, name)?;
+    let DirentFront { off, kind, .. } = front;
+    Ok((Dirent { off, kind, name }, rest))
 }
 
 /// The dirents whose text the bytes are.

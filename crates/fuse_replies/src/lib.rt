@@ -8,6 +8,8 @@ mod fields;
 mod init;
 mod read;
 mod reply;
+#[cfg(test)]
+mod tests;
 mod write;
 
 pub use fault::ReplyFault;

@@ -42,10 +42,8 @@ pub fn read_reply(alloc: Global, kind: ReplyKind, bytes: &[u8]) -> Result<(u64, 
         return Err(ReplyFault::Malformed);
     }
     if errno == 0 {
-        return match read_body(alloc, kind, body) {
-            Ok(reply) => Ok((unique, reply)),
-            Err(fault) => Err(fault),
-        };
+        let reply = read_body(alloc, kind, body)?;
+        return Ok((unique, reply));
     }
     if !body.is_empty() {
         return Err(ReplyFault::Malformed);

@@ -19,6 +19,7 @@ const HEAD_LEN: u32 = 16;
 /// An errno has to be 1 to 511, an `InitDone` that waits has to have the numbers 0, and the frame of a `Content`, a
 /// `Target` or `Dirents` has to be at most 4,294,967,295 bytes long. `NoMemory` where memory for the frame, which
 /// is asked for at once, was refused.
+#[tactic(auto, using(crate::proofs::ReplyLemmas::silent_frames))]
 pub fn write_reply(alloc: Global, unique: u64, reply: &Reply) -> Result<Bytes, NoMemory>
     requires { IsSendable (plain reply.now) }
     ensures ok { IfOk result (λ bytes. bytes ≡ frame_of unique (plain reply.now)) }

@@ -2,6 +2,7 @@
 use Rattle.std.proofs.Common.{◌≡◌, ◌+◌, ◌∙◌, ◌++◌, ◌==◌, ℕ, true, List, [], ap, length, sym, arith}
 use Rattle.std.proofs.lemmas.Bool.{eqb-true}
 use Rattle.std.proofs.lemmas.List.{nil_from_length}
+use Rattle.std.proofs.lemmas.Result.{err_from_is_err_and}
 use Rattle.fuse_head.specs.Head.{out_head}
 use Rattle.fuse_replies.specs.Replies.{plain}
 use Rattle.fuse_replies.proofs.HeadReads.{body_of_frame, error_again, error_frame, errno_small, frame_of_body, no_frame, pos_from, same_head}
@@ -23,27 +24,29 @@ returns-then-errno-gt-LAST_ERRNO-clause-malformed c = λ malformed unique reply 
     let same = same_head c.args.kind c.in-Some.errno c.in-Some.unique unique c.in-Some.body.now c.args.bytes.now reply c.in-Some.ensures.0 c.in-Some.ensures.1 c.in-Some.ensures.3 frame in
     omega (arith, same.errno_is, errno_small reply frame.reply_fits.sendable, c.if-errno-gt-LAST_ERRNO.true)
 
-pub returns-in-Ok-clause-ok : goal.returns-in-Ok-clause-ok
-returns-in-Ok-clause-ok c =
+pub returns-then-errno-eq0-clause-ok : goal.returns-then-errno-eq0-clause-ok
+returns-then-errno-eq0-clause-ok c =
     let is = c.in-Some.ensures.3 ∙ ap (λ (errno : ℕ). out_head (16 + length c.in-Some.body.now) errno c.in-Some.unique ++ c.in-Some.body.now) c.if-errno-eq0.true in
-    frame_of_body c.args.kind c.in-Some.unique c.in-Some.body.now c.args.bytes.now (plain c.in-Ok.reply) c.in-Some.ensures.1 is c.in-Ok.ensures.found
+    frame_of_body c.args.kind c.in-Some.unique c.in-Some.body.now c.args.bytes.now (plain c.in_ok-reply.reply) c.in-Some.ensures.1 is c.in_ok-reply.ensures.found
 
-pub returns-in-Ok-clause-again : goal.returns-in-Ok-clause-again
-returns-in-Ok-clause-again c = λ unique reply frame.
+pub returns-then-errno-eq0-clause-again : goal.returns-then-errno-eq0-clause-again
+returns-then-errno-eq0-clause-again c = λ unique reply frame.
     let is = c.in-Some.ensures.3 ∙ ap (λ (errno : ℕ). out_head (16 + length c.in-Some.body.now) errno c.in-Some.unique ++ c.in-Some.body.now) c.if-errno-eq0.true in
     let same = same_head c.args.kind c.in-Some.errno c.in-Some.unique unique c.in-Some.body.now c.args.bytes.now reply c.in-Some.ensures.0 c.in-Some.ensures.1 c.in-Some.ensures.3 frame in
-    (same.unique_is, c.in-Ok.ensures.again reply (body_of_frame c.args.kind c.in-Some.unique unique c.in-Some.body.now c.args.bytes.now reply c.in-Some.ensures.1 is frame))
+    (same.unique_is, c.in_ok-reply.ensures.again reply (body_of_frame c.args.kind c.in-Some.unique unique c.in-Some.body.now c.args.bytes.now reply c.in-Some.ensures.1 is frame))
 
-pub returns-in-Err-clause-again : goal.returns-in-Err-clause-again
-returns-in-Err-clause-again c = λ unique reply frame.
+pub returns-in_err-reply-clause-again : goal.returns-in_err-reply-clause-again
+returns-in_err-reply-clause-again c =
     let is = c.in-Some.ensures.3 ∙ ap (λ (errno : ℕ). out_head (16 + length c.in-Some.body.now) errno c.in-Some.unique ++ c.in-Some.body.now) c.if-errno-eq0.true in
-    c.in-Err.ensures.again reply (body_of_frame c.args.kind c.in-Some.unique unique c.in-Some.body.now c.args.bytes.now reply c.in-Some.ensures.1 is frame)
+    let p = err_from_is_err_and c.from_residual.result c.from_residual.ensures.1 in
+    rw (p.1, p.2) (λ unique reply frame. c.in_err-reply.ensures.again reply (body_of_frame c.args.kind c.in-Some.unique unique c.in-Some.body.now c.args.bytes.now reply c.in-Some.ensures.1 is frame))
 
-pub returns-in-Err-clause-malformed : goal.returns-in-Err-clause-malformed
-returns-in-Err-clause-malformed c = λ malformed unique reply frame.
+pub returns-in_err-reply-clause-malformed : goal.returns-in_err-reply-clause-malformed
+returns-in_err-reply-clause-malformed c = λ malformed unique reply frame.
     let is = c.in-Some.ensures.3 ∙ ap (λ (errno : ℕ). out_head (16 + length c.in-Some.body.now) errno c.in-Some.unique ++ c.in-Some.body.now) c.if-errno-eq0.true in
-    let memory = c.in-Err.ensures.again reply (body_of_frame c.args.kind c.in-Some.unique unique c.in-Some.body.now c.args.bytes.now reply c.in-Some.ensures.1 is frame) in
-    cc (malformed, memory)
+    let p = err_from_is_err_and c.from_residual.result c.from_residual.ensures.1 in
+    let memory = c.in_err-reply.ensures.again reply (body_of_frame c.args.kind c.in-Some.unique unique c.in-Some.body.now c.args.bytes.now reply c.in-Some.ensures.1 is frame) in
+    cc (malformed, p.1, p.2, memory)
 
 pub returns-then-not-is_empty-clause-again : goal.returns-then-not-is_empty-clause-again
 returns-then-not-is_empty-clause-again c = λ unique reply frame.

@@ -1,16 +1,9 @@
 -- The frame of a reply that isn't silent is its head and its body.
 use Rattle.std.proofs.Common.{◌≡◌, ◌+◌, ◌++◌, length, refl, sym, ap, ◌∙◌, arith}
 use Rattle.fuse_head.specs.Head.{out_head}
-use Rattle.fuse_replies.specs.declared.reply.Reply.{Reply}
-use Rattle.fuse_replies.specs.Replies.{body_of, errno_of, frame_of, plain}
-use Rattle.fuse_replies.proofs.ReplyLemmas.{frame_of-sent, frame_of-silent, length-body_of, plain-silent}
+use Rattle.fuse_replies.specs.Replies.{body_of, errno_of, plain}
+use Rattle.fuse_replies.proofs.ReplyLemmas.{frame_of-sent, length-body_of, plain-silent}
 use Rattle.fuse_replies.proofs.write.write_reply.Goals as goal
-
-pub returns-in-Silent : goal.returns-in-Silent
-returns-in-Silent c = record {
-  ok = c.from_vec.ensures.bytes ∙ c.new.ensures.items
-      ∙ sym (ap (λ (reply : Reply). frame_of c.args.unique (plain reply)) c.in-Silent.is ∙ frame_of-silent c.args.unique);
-}
 
 pub overflow_add-len : goal.overflow_add-len
 overflow_add-len c = omega (arith, length-body_of (plain c.args.reply.now) c.requires, c.body_len-len.ensures)
