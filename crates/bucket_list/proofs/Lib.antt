@@ -1,0 +1,5 @@
+pub mod Keys
+pub mod Pages
+pub mod Starts
+pub mod Texts
+pub mod Walks

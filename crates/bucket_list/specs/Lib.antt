@@ -1,0 +1,4 @@
+pub mod Closing
+pub mod Slash
+pub mod Start
+pub mod Walking

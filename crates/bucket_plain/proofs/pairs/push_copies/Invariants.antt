@@ -1,0 +1,6 @@
+-- The pairs so far stand after those that were there.
+use Rattle.std.proofs.Common.{◌≡◌, ◌++◌, take}
+use Rattle.bucket_plain.proofs.pairs.push_copies.Given as goal
+
+abbrev pub invariant-loop-pair : goal.invariant-loop-pair
+invariant-loop-pair l = l.pairs.items ≡ l.initial.pairs.items ++ take l.pair-index l.more
