@@ -9,7 +9,7 @@ use Rattle.std.specs.List.{list_any}
 use Rattle.std.specs.Ordering.{is_eq}
 use Rattle.std.specs.declared.cmp.Ordering.TheVariants.{Less, Equal, Greater}
 use Rattle.spare_maps.specs.SpareMaps.{Numbered}
-use Rattle.spare_maps.proofs.FinMaps.{get-insert_number, get-remove_number, number_put, number_put_same, number_taken, number_taken_same}
+use Rattle.spare_maps.proofs.FinMaps.{get-insert_number, get-remove_number, number_put, number_taken, number_taken_same}
 use Rattle.handle_table.specs.Handles.{Opened, Handles, IsTable, IsHeldTable, open_on, count_at, opened, released}
 
 either_of : {A B C : Type 0} → A ⊎ B → (A → C) → (B → C) → C

@@ -1,6 +1,6 @@
 -- What contracts see of a table of handles, and what each call makes of it. A handle is the number that OPEN and OPENDIR
 -- answer, `fh` of fuse.h; files and directories share the numbers.
-use Rattle.std.specs.Prelude.{◌≡◌, ℕ, zero, suc, ◌+◌, ◌-◌, ◌<◌, ◌≤◌, List, Option, Some, None, nat_eq, ◌==◌, refl, length, filter, unwrap_or}
+use Rattle.std.specs.Prelude.{◌≡◌, ℕ, zero, suc, ◌+◌, ◌-◌, ◌<◌, ◌≤◌, List, Option, Some, ◌==◌, refl, length, filter, unwrap_or}
 use Rattle.std.specs.Coded.{Coded, code_by, coded×, coded_ℕ, coded_list, coded_option}
 use Rattle.std.specs.FinMap as fin
 use Rattle.std.specs.Ordering.{nat_cmp}

@@ -1,4 +1,4 @@
-use Rattle.std.proofs.Common.{◌≡◌, ◌-◌, None, Some, cond, nat_eq, sym, ap, ◌∙◌, unwrap_or, arith}
+use Rattle.std.proofs.Common.{◌≡◌, ◌-◌, Some, cond, nat_eq, sym, ap, ◌∙◌, unwrap_or, arith}
 use Rattle.std.specs.FinMap as fin
 use Rattle.handle_table.specs.Handles.{count_at}
 use Rattle.handle_table.proofs.HandleLemmas.{count_at-insert, count_at-remove}

@@ -1,4 +1,4 @@
-use Rattle.std.proofs.Common.{◌≡◌, Some, nat_eq, slice_get, is_some, refl, sym, ap, ◌∙◌, subst}
+use Rattle.std.proofs.Common.{◌≡◌, nat_eq, slice_get, is_some, refl, sym, ap, ◌∙◌}
 use Rattle.std.proofs.lemmas.Option.{MatchOption-at_some}
 use Rattle.std.specs.Bool.{⊤}
 use Rattle.std.specs.FinMap as fin
