@@ -1,12 +1,11 @@
 -- The law of counts: over any list of calls, a node other than the root is there exactly where its count is above 0.
-use Rattle.std.proofs.Common.{◌≡◌, ◌≢◌, ℕ, ◌+◌, ◌-◌, ◌<◌, ◌≤◌, ◌↔◌, Bool, true, false, cond, List, [], ◌∷◌, Option, Some, None, IsSome, is_some, refl, sym, ap, subst, ◌∙◌, nat_eq, nat_cmp, nat_le, not, ◌&&◌, ◌==◌, arith}
+use Rattle.std.proofs.Common.{◌≡◌, ◌≢◌, ℕ, ◌+◌, ◌-◌, ◌<◌, ◌≤◌, ◌↔◌, Bool, true, false, cond, List, [], ◌∷◌, Option, Some, None, IsSome, refl, sym, ap, subst, ◌∙◌, nat_eq, nat_cmp, nat_le, not, ◌&&◌, ◌==◌, arith}
 use Rattle.std.proofs.lemmas.Bool.{false≢true}
 use Rattle.std.proofs.lemmas.Bool.Decides.{Decides-eqb}
 use Rattle.std.specs.FinMap as fin
 use Rattle.std.specs.Option.{option_map_or}
-use Rattle.object_names.specs.declared.shown.NodeKind.{NodeKind}
-use Rattle.spare_maps.proofs.FinMaps.{get-insert_number, get-remove_number, number_put_same}
-use Rattle.inode_table.specs.Calls.{Call, Grant, Look, Forget, after, Meets, after_all, MeetsAll, count_along, CountsDecide}
+use Rattle.spare_maps.proofs.FinMaps.{get-insert_number, get-remove_number}
+use Rattle.inode_table.specs.Calls.{Call, Grant, Look, Forget, after_all, MeetsAll, count_along, CountsDecide}
 use Rattle.inode_table.specs.Inodes.{Inodes, NodeMap, IsTable, new_table, changed, granted, looked, forgotten, dropped, drops, left, root, lookups_of}
 use Rattle.inode_table.specs.declared.inode.Inode.{Inode}
 use Rattle.inode_table.proofs.TableLemmas.{IsTable-new, IsTable-spare, IsTable-granted, IsTable-written, IsTable-dropped, spent, unspent}

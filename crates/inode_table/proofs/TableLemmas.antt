@@ -8,7 +8,7 @@ use Rattle.std.specs.Option.{option_map_or}
 use Rattle.object_names.specs.declared.shown.NodeKind.{NodeKind}
 use Rattle.spare_maps.specs.SpareMaps.{Numbered, Named}
 use Rattle.spare_maps.proofs.FinMaps.{number_put, number_put_same, number_put_other, number_taken, number_taken_other, name_put, name_taken}
-use Rattle.inode_table.specs.Inodes.{Inodes, NodeMap, Names, IsTable, IsHeldTable, IsNamed, root, new_table, changed, granted, left, left_by, dropped, forgotten, drops}
+use Rattle.inode_table.specs.Inodes.{Inodes, NodeMap, Names, IsTable, IsHeldTable, IsNamed, root, new_table, granted, left}
 use Rattle.inode_table.specs.declared.inode.Inode.{Inode}
 
 either_of : {A B C : Type 0} → A ⊎ B → (A → C) → (B → C) → C

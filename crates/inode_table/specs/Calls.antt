@@ -1,5 +1,5 @@
 -- The law of counts: over any list of calls, how often a node was given and forgotten decides whether it is there.
-use Rattle.std.specs.Prelude.{◌≡◌, ◌≢◌, ℕ, ◌+◌, ◌-◌, ◌<◌, List, [], ◌∷◌, ◌↔◌, IsSome, if◌then◌else◌, ◌==◌}
+use Rattle.std.specs.Prelude.{◌≢◌, ℕ, ◌+◌, ◌-◌, ◌<◌, List, [], ◌∷◌, ◌↔◌, IsSome, if◌then◌else◌, ◌==◌}
 use Rattle.std.specs.FinMap as fin
 use Rattle.object_names.specs.declared.shown.NodeKind.{NodeKind}
 use Rattle.inode_table.specs.Inodes.{Inodes, granted, looked, forgotten, new_table}

@@ -1,6 +1,6 @@
 -- What contracts see of a table of nodes, and what each call makes of it. A node is a number that the kernel holds: it
 -- was given it by so many look-ups, and gives them back by FORGET (fuse.h: `nlookup` of `fuse_forget_in`).
-use Rattle.std.specs.Prelude.{◌≡◌, ℕ, ◌+◌, ◌-◌, ◌<◌, ◌≤◌, Bool, true, false, not, ◌&&◌, List, [], Option, Some, None, nat_le, nat_eq, ◌==◌, if◌then◌else◌, refl, IsSome}
+use Rattle.std.specs.Prelude.{◌≡◌, ℕ, ◌+◌, ◌-◌, ◌<◌, ◌≤◌, Bool, false, not, ◌&&◌, List, [], Some, nat_le, nat_eq, ◌==◌, if◌then◌else◌, refl, IsSome}
 use Rattle.std.specs.Cmp.Lexicographic.{slice_cmp}
 use Rattle.std.specs.Coded.{Coded, code_by, coded×, coded_ℕ, coded_list}
 use Rattle.std.specs.FinMap as fin

@@ -21,7 +21,7 @@ fn shown(table: &mut InodeTable, alloc: Global, name: &str) -> Result<u64, NoMem
 fn shown_often(table: &mut InodeTable, alloc: Global, count: u64) -> Result<(), NoMemory>
     requires { table.old.next + count < 2 ^ 61 }
 {
-    for _turn in 0..count {
+    for turn in 0..count {
         shown(table, alloc, "n")?;
     }
     Ok(())
@@ -37,6 +37,37 @@ fn forget_all(table: &mut InodeTable, count: u64) -> u64 {
         }
     }
     dropped
+}
+
+/// Makes a node current again, where it is there.
+fn promote(table: &mut InodeTable, alloc: Global, node: u64) -> Result<bool, NoMemory> {
+    table.reserve(1)?;
+    let Some(inode) = table.get(node) else {
+        return Ok(false);
+    };
+    let again = inode.name.copy(alloc)?;
+    table.make_current(node, again);
+    Ok(true)
+}
+
+/// Another generation of a node and one more look-up, where it is there.
+fn look_again(table: &mut InodeTable, node: u64, source: u64) -> bool {
+    if table.get(node).is_some() {
+        table.advance(node, source, 9);
+    }
+    look_few(table, node)
+}
+
+/// One more look-up of a node, where it is there and has few look-ups.
+fn look_few(table: &mut InodeTable, node: u64) -> bool {
+    let Some(inode) = table.get(node) else {
+        return false;
+    };
+    if inode.lookups > 100 {
+        return false;
+    }
+    table.look(node);
+    true
 }
 
 #[test]
@@ -68,5 +99,22 @@ fn many_nodes_come_and_go(rt: HostRuntime) -> Result<(), Fail> {
     assert_eq!(rt; forget_all(&mut table, 100_000), 100_000);
     assert!(rt; table.get(50_001).is_none());
     assert_eq!(rt; table.current("n"), None);
+    Ok(())
+}
+
+#[test]
+fn an_older_node_becomes_current_again(rt: HostRuntime) -> Result<(), Fail> {
+    let mut table = InodeTable::new(rt.alloc())?;
+    let older = shown(&mut table, rt.alloc(), "a")?;
+    let newer = shown(&mut table, rt.alloc(), "a")?;
+    assert!(rt; promote(&mut table, rt.alloc(), older)?);
+    assert_eq!(rt; table.current("a"), Some(older));
+    assert!(rt; table.forget(newer, 1));
+    assert_eq!(rt; table.current("a"), Some(older));
+    assert!(rt; look_again(&mut table, older, 8));
+    assert_eq!(rt; table.get(older).map(|inode| inode.source), Some(8));
+    assert!(rt; !table.forget(older, 1));
+    assert!(rt; table.forget(older, 1));
+    assert_eq!(rt; table.current("a"), None);
     Ok(())
 }

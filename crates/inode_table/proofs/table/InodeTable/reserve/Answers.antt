@@ -1,4 +1,3 @@
-use Rattle.std.proofs.Common.{arith}
 use Rattle.inode_table.specs.Inodes.{Inodes}
 use Rattle.inode_table.proofs.TableLemmas.{IsHeldTable-of, IsTable-spare}
 use Rattle.inode_table.proofs.table.InodeTable.reserve.Goals as goal
