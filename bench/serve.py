@@ -1,0 +1,69 @@
+#!/usr/bin/env python3
+"""Times `gcsmount serve` on streams of request frames, beside `cat` on the same bytes.
+
+Usage: bench/serve.py PROGRAM [RUNS]    (PROGRAM: the built program, as crates/gcsmount/out/gcsmount)
+
+For each stream, and for one of half as many frames, it prints the least time of RUNS runs (default 5), the ratio to
+`cat` of the same bytes into a file, and the ratio of the whole stream to the half.
+"""
+import struct
+import subprocess
+import sys
+import tempfile
+import time
+
+INIT, STATFS, CREATE, WRITE = 26, 17, 35, 16
+
+
+def frame(opcode, unique, node, body=b""):
+    return struct.pack("<IIQQIIII", 40 + len(body), opcode, unique, node, 0, 0, 0, 0) + body
+
+
+def init():
+    return frame(INIT, 1, 0, struct.pack("<IIII", 7, 31, 131072, 0xFFFFFFFF))
+
+
+def statfs_stream(count):
+    return init() + b"".join(frame(STATFS, 2 + n, 1) for n in range(count))
+
+
+def write_stream(count):
+    content = b"a" * 131072
+    made = frame(CREATE, 2, 1, struct.pack("<IIII", 0, 0o100644, 0, 0) + b"f\0")
+    places = (struct.pack("<QQIIQII", 1, n * 131072 % (1 << 24), 131072, 0, 0, 0, 0) for n in range(count))
+    return init() + made + b"".join(frame(WRITE, 3 + n, 2, place + content) for n, place in enumerate(places))
+
+
+def least(words, path, runs):
+    best = None
+    for _ in range(runs):
+        with open(path, "rb") as stream, tempfile.TemporaryFile() as out:
+            start = time.perf_counter()
+            subprocess.run(words, stdin=stream, stdout=out, check=True)
+            spent = time.perf_counter() - start
+        best = spent if best is None or spent < best else best
+    return best
+
+
+def measure(name, make, count, program, runs):
+    times = []
+    for frames in (count // 2, count):
+        with tempfile.NamedTemporaryFile() as stream:
+            stream.write(make(frames))
+            stream.flush()
+            served = least([program, "serve"], stream.name, runs)
+            copied = least(["cat"], stream.name, runs)
+        times.append(served)
+        print(f"{name}, {frames} frames: {served:.3f} s, {served / copied:.1f} times cat")
+    print(f"{name}: twice the frames take {times[1] / times[0]:.2f} times as long")
+
+
+def main():
+    program = sys.argv[1]
+    runs = int(sys.argv[2]) if len(sys.argv) > 2 else 5
+    measure("STATFS", statfs_stream, 500_000, program, runs)
+    measure("WRITE of 128 KiB", write_stream, 400, program, runs)
+
+
+if __name__ == "__main__":
+    main()

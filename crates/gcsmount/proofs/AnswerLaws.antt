@@ -1,0 +1,119 @@
+-- What answering comes to, step by step.
+use Rattle.std.proofs.Common.{◌≡◌, ◌≤◌, ◌++◌, ◌∷◌, [], List, ℕ, take, subst, sym, refl, ◌∙◌, arith, OnOk, OnErr, IfOk, IfErr, Result, Ok, Err}
+use Rattle.std.proofs.KnownBytes.{Appends-nil, Appends-trans}
+use Rattle.std.specs.Io.KnownBytes.{Appends}
+use Rattle.io_ports.specs.Faults.{Rose}
+use Rattle.io_ports.specs.Streams.{AppendsPrefix}
+use Rattle.fuse_head.specs.Little.{u64_at}
+use Rattle.fuse_replies.specs.declared.reply.Reply.{Reply}
+use Rattle.fuse_replies.specs.Replies.{frame_of}
+use Rattle.fuse_requests.specs.declared.request.Request.{Request}
+use Rattle.fuse_requests.specs.Grammar.{request_of}
+use Rattle.mount_model.specs.declared.config.Config.{Config}
+use Rattle.mount_spec.specs.OneThread.{RunState, Performs, Serves, BeginsServing}
+use Rattle.mount_spec.proofs.RunLaws.{BeginsServing-after, BeginsServing-more, BeginsServing-nothing, BeginsServing-taken, BeginsServing-whole, Serves-append, Serves-nil, Serves-request}
+use Rattle.gcsmount.specs.Answers.{Answers, AnswersAll, AnswersSome, IsCause}
+use Rattle.gcsmount.specs.Ports.{Port}
+use Rattle.gcsmount.specs.SerialState.{SerialState}
+use Rattle.gcsmount.specs.declared.answer.Stop.{Stop}
+use Rattle.gcsmount.specs.declared.answer.Stop.TheVariants.{WriteFault, NoMemory}
+
+-- nothing was put, and the sink is as it was
+pub AnswersSome-nothing : (mount : SerialState) (frames : List (List ℕ)) (sink : Port) → AnswersSome mount frames sink sink
+AnswersSome-nothing mount frames sink = record {
+  put = [];
+  appended = Appends-nil sink.bytes;
+  begun = BeginsServing-nothing mount.config mount.state frames;
+}
+
+-- the replies to frames were handed to the sink
+pub Answers-put : {U : Type 0} (mount mount' : SerialState) (frames : List (List ℕ)) (text : List ℕ) (sink sink' : Port) (r : Result U Stop)
+    → mount'.config ≡ mount.config → Serves mount.config mount.state frames text mount'.state
+    → OnOk r (Appends sink.bytes sink'.bytes text) → OnErr r (AppendsPrefix sink.bytes sink'.bytes text)
+    → IfErr r (λ stop. (stop ≡ WriteFault) × Rose sink.faults sink'.faults)
+    → Answers mount mount' frames sink sink' r
+Answers-put mount mount' frames text sink sink' (Ok _) config served all some cause =
+    record { put = text; appended = all; config = config; served = served }
+Answers-put mount mount' frames text sink sink' (Err stop) config served all some cause = (
+  record {
+    put = take some.0 text;
+    appended = some.1;
+    begun = BeginsServing-taken mount.config mount.state mount'.state frames text some.0 served;
+  },
+  subst (λ why. IsCause why sink sink') (sym cause.0) cause.1,
+)
+
+-- the frame of the reply to a request that was performed serves the frame of the request
+pub Serves-written : {E : Type 0} (config : Config) (state after : RunState) (frame : List ℕ) (request : Request) (reply : Reply) (r : Result (List ℕ) E)
+    → request ≡ request_of frame → Performs config state request reply after
+    → IfOk r (λ text. text ≡ frame_of (u64_at frame 8) reply) → IfOk r (λ text. Serves config state (frame ∷ []) text after)
+Serves-written config state after frame request reply (Ok text) asked done is =
+    subst (λ t. Serves config state (frame ∷ []) t after) (sym is)
+    (Serves-request config state after frame reply (subst (λ q. Performs config state q reply after) asked done))
+Serves-written config state after frame request reply (Err e) asked done is = tt
+
+-- a count that rose later rose from the beginning on
+pub Rose-later : (before between now : ℕ) → before ≤ between → Rose between now → Rose before now
+Rose-later before between now later rose = omega arith
+
+pub IsCause-later : (stop : Stop) (before between now : Port) → before.faults ≤ between.faults → IsCause stop between now → IsCause stop before now
+IsCause-later WriteFault before between now later rose = Rose-later before.faults between.faults now.faults later rose
+IsCause-later NoMemory before between now later _ = tt
+
+-- no frame was answered
+pub AnswersAll-nothing : (mount : SerialState) (sink : Port) → AnswersAll mount mount [] sink sink
+AnswersAll-nothing mount sink = record {
+  put = [];
+  appended = Appends-nil sink.bytes;
+  config = refl;
+  served = Serves-nil mount.config mount.state;
+}
+
+-- some frames were answered, and then some more
+pub AnswersAll-then : (mount between mount' : SerialState) (first then : List (List ℕ)) (sink amid sink' : Port)
+    → AnswersAll mount between first sink amid → AnswersAll between mount' then amid sink' → AnswersAll mount mount' (first ++ then) sink sink'
+AnswersAll-then mount between mount' first then sink amid sink' one two = record {
+  put = one.put ++ two.put;
+  appended = Appends-trans sink.bytes amid.bytes sink'.bytes one.put two.put one.appended two.appended;
+  config = two.config ∙ one.config;
+  served =
+      Serves-append mount.config mount.state between.state mount'.state first then one.put two.put one.served
+      (subst (λ config. Serves config between.state then two.put mount'.state) one.config two.served);
+}
+
+-- some frames were answered, and then the replies to some more begun
+pub AnswersSome-then : (mount between : SerialState) (first then : List (List ℕ)) (sink amid sink' : Port)
+    → AnswersAll mount between first sink amid → AnswersSome between then amid sink' → AnswersSome mount (first ++ then) sink sink'
+AnswersSome-then mount between first then sink amid sink' one two = record {
+  put = one.put ++ two.put;
+  appended = Appends-trans sink.bytes amid.bytes sink'.bytes one.put two.put one.appended two.appended;
+  begun =
+      BeginsServing-after mount.config mount.state between.state first then one.put two.put one.served
+      (subst (λ config. BeginsServing config between.state then two.put) one.config two.begun);
+}
+
+-- replies that were begun are those to more frames, too
+pub AnswersSome-more : (mount : SerialState) (first then : List (List ℕ)) (sink sink' : Port)
+    → AnswersSome mount first sink sink' → AnswersSome mount (first ++ then) sink sink'
+AnswersSome-more mount first then sink sink' one =
+    record { put = one.put; appended = one.appended; begun = BeginsServing-more mount.config mount.state first then one.put one.begun }
+
+-- among waiting frames, the first ones were answered, and then the next one stopped
+pub Answers-stopped : (mount between : SerialState) (done rest waiting : List (List ℕ)) (frame : List ℕ) (sink amid sink' : Port) (stop : Stop)
+    → waiting ≡ done ++ frame ∷ rest → AnswersAll mount between done sink amid → sink.faults ≤ amid.faults
+    → AnswersSome between (frame ∷ []) amid sink' → IsCause stop amid sink'
+    → AnswersSome mount waiting sink sink' × IsCause stop sink sink'
+Answers-stopped mount between done rest waiting frame sink amid sink' stop is one later some cause = (
+  subst (λ frames. AnswersSome mount frames sink sink') (sym is)
+      (AnswersSome-then mount between done (frame ∷ rest) sink amid sink' one (AnswersSome-more between (frame ∷ []) rest amid sink' some)),
+  IsCause-later stop sink amid sink' later cause,
+)
+
+-- all replies to frames are a prefix of them
+pub AnswersAll-some : (mount mount' : SerialState) (frames : List (List ℕ)) (sink sink' : Port)
+    → AnswersAll mount mount' frames sink sink' → AnswersSome mount frames sink sink'
+AnswersAll-some mount mount' frames sink sink' all = record {
+  put = all.put;
+  appended = all.appended;
+  begun = BeginsServing-whole mount.config mount.state mount'.state frames all.put all.served;
+}

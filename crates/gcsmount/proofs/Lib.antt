@@ -1,0 +1,5 @@
+pub mod AnswerLaws
+pub mod Completeness
+pub mod FrameLists
+pub mod PieceLaws
+pub mod ServeLaws

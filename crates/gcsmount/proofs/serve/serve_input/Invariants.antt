@@ -1,0 +1,14 @@
+use Rattle.std.proofs.Common.{◌≡◌, ◌+◌, ◌-◌, vec_len}
+use Rattle.gcsmount.specs.Ports.{port}
+use Rattle.gcsmount.specs.Serve.{longest_input}
+use Rattle.gcsmount.specs.Serving.{Progress}
+use Rattle.gcsmount.proofs.serve.serve_input.Given as goal
+
+abbrev pub invariant-loop-cutter : goal.invariant-loop-cutter
+invariant-loop-cutter g l = record {
+  buffer : vec_len l.buffer ≡ 65536;
+  so_far : Progress l.config (port (g.R.Source.left l.initial.source) (g.R.Source.faults l.initial.source)) (port (g.R.Source.left l.source) (g.R.Source.faults l.source)) (port (g.W.Sink.written l.initial.sink) (g.W.Sink.faults l.initial.sink)) (port (g.W.Sink.written l.sink) (g.W.Sink.faults l.sink)) l.taken l.cutter l.serial;
+}
+
+abbrev pub decreases-loop-cutter : goal.decreases-loop-cutter
+decreases-loop-cutter g l = longest_input + 1 - l.taken

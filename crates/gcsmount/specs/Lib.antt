@@ -1,0 +1,7 @@
+-- What the program promises of a served stream and of its words.
+pub mod Answers
+pub mod Ports
+pub mod SerialState
+pub mod Serve
+pub mod Serving
+pub mod Tool

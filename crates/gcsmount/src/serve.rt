@@ -1,0 +1,136 @@
+ghost use Rattle.std.specs.Prelude.{◌≡◌, ◌≤◌, ◌+◌, ℕ, List, IfOk, OnErr, length, take, vec_len};
+ghost use Rattle.std.specs.Io.KnownBytes.{Consumes, IsAtEnd, Keeps};
+ghost use Rattle.io_ports.specs.Faults.{Rose};
+ghost use Rattle.mount_model.specs.Configs.{IsConfig};
+ghost use Rattle.mount_model.specs.declared.config.Config.{Config};
+ghost use Rattle.fuse_frames.specs.Cutter.{fed};
+ghost use Rattle.gcsmount.specs.Ports.{port};
+ghost use Rattle.gcsmount.specs.Serve.{IsComplete, Streams, longest_input};
+ghost use Rattle.gcsmount.specs.Serving.{FinishesBy, HasServed, ServesTaken};
+
+use crate::serial::Serial;
+use crate::serve_end::ServeEnd;
+use crate::server::{end_of, serve_piece};
+use fuse_frames::FrameCutter;
+use io_ports::{Failed, NoMemory, Sink, Source};
+use mount_model::Config;
+use std::alloc::Global;
+
+/// The most bytes of input that are served.
+const LONGEST_INPUT: u64 = 67_108_864;
+/// The most bytes that one take asks for.
+const PIECE: usize = 65_536;
+
+/// Serves the request frames of a source to its end, on a mount over an empty bucket: each whole frame is
+/// answered before more input is taken. At most 65,536 bytes are asked for at once, and never more than
+/// one byte past 67,108,864, which isn't cut into frames.
+pub fn serve_stream<R: Source, W: Sink>(
+    alloc: Global,
+    config: &Config,
+    source: &mut R,
+    sink: &mut W,
+) -> ServeEnd
+    requires { IsConfig config.now }
+    ensures streams { Streams config.now result (port (R.left source.old) (R.faults source.old)) (port (R.left source.new) (R.faults source.new)) (port (W.written sink.old) (W.faults sink.old)) (port (W.written sink.new) (W.faults sink.new)) }
+    ensures complete { IsComplete result (port (R.left source.old) (R.faults source.old)) (port (R.left source.new) (R.faults source.new)) (port (W.written sink.old) (W.faults sink.old)) (port (W.written sink.new) (W.faults sink.new)) }
+    ensures source_faults { R.faults source.old ≤ R.faults source.new }
+    ensures sink_faults { W.faults sink.old ≤ W.faults sink.new }
+{
+    serve_input(alloc, config, source, sink)
+}
+
+fn serve_input<R: Source, W: Sink>(
+    alloc: Global,
+    config: &Config,
+    source: &mut R,
+    sink: &mut W,
+) -> ServeEnd
+    ensures streams { Streams config.now result (port (R.left source.old) (R.faults source.old)) (port (R.left source.new) (R.faults source.new)) (port (W.written sink.old) (W.faults sink.old)) (port (W.written sink.new) (W.faults sink.new)) }
+    ensures source_faults { R.faults source.old ≤ R.faults source.new }
+    ensures sink_faults { W.faults sink.old ≤ W.faults sink.new }
+{
+    let Ok(mut buffer) = piece_buffer(alloc) else {
+        return ServeEnd::NoMemory;
+    };
+    let mut serial = Serial::new(config);
+    let mut cutter = FrameCutter::new(alloc);
+    let mut taken = 0;
+    loop {
+        let count = match take_piece(source, buffer.as_mut_slice(), taken) {
+            Err(Failed) => return ServeEnd::ReadFault,
+            Ok(0) => return end_of_input(cutter),
+            Ok(count) => count,
+        };
+        match serve_taken(
+            alloc,
+            &mut serial,
+            &mut cutter,
+            buffer.as_slice(),
+            taken,
+            count,
+            sink,
+        ) {
+            Ok(()) => taken += count as u64,
+            Err(end) => return end,
+        }
+    }
+}
+
+fn piece_buffer(alloc: Global) -> Result<Vec<u8>, NoMemory>
+    ensures ok { IfOk result (λ buffer. vec_len buffer ≡ 65536) }
+{
+    Ok(vec![in alloc; 0; PIECE]?)
+}
+
+// Takes the next bytes of the source into the front of the buffer.
+fn take_piece<R: Source>(source: &mut R, buffer: &mut [u8], taken: u64) -> Result<usize, Failed>
+    requires buffer { length buffer.old ≡ 65536 }
+    requires taken { taken ≤ longest_input }
+    ensures bound { IfOk result (λ count. (count ≤ 65536) × (taken + count ≤ longest_input + 1)) }
+    ensures bytes { IfOk result (λ count. Consumes (R.left source.old) (R.left source.new) (take count buffer.new)) }
+    ensures end { IfOk result (λ count. count ≡ 0 → IsAtEnd (R.left source.new)) }
+    ensures err { OnErr result (Keeps (R.left source.old) (R.left source.new)) }
+    ensures failed { OnErr result (Rose (R.faults source.old) (R.faults source.new)) }
+    ensures faults { R.faults source.old ≤ R.faults source.new }
+{
+    let room = (LONGEST_INPUT + 1 - taken).min(PIECE as u64) as usize;
+    let (asked, _rest) = buffer.split_at_mut(room);
+    source.take(asked)
+}
+
+// Serves the bytes of one take, but for one past the longest input.
+fn serve_taken<W: Sink>(
+    alloc: Global,
+    serial: &mut Serial,
+    cutter: &mut FrameCutter,
+    buffer: &[u8],
+    taken: u64,
+    count: usize,
+    sink: &mut W,
+) -> Result<(), ServeEnd>
+    requires fed { fed cutter.old ≡ taken }
+    requires taken { taken ≤ longest_input }
+    requires buffer { count ≤ length buffer.now }
+    requires bound { taken + count ≤ longest_input + 1 }
+    ensures served { (config : Config) (input put : List ℕ) → taken ≡ length input → HasServed config input put cutter.old serial.old →
+        ServesTaken config input put (take count buffer.now) cutter.new serial.new (port (W.written sink.old) (W.faults sink.old)) (port (W.written sink.new) (W.faults sink.new)) result }
+    ensures faults { W.faults sink.old ≤ W.faults sink.new }
+{
+    let counted = (LONGEST_INPUT - taken).min(count as u64) as usize;
+    let (piece, _past) = buffer.split_at(counted);
+    match serve_piece(alloc, serial, cutter, piece, sink) {
+        Err(end) => Err(end),
+        Ok(()) if counted < count => Err(ServeEnd::TooLong),
+        Ok(()) => Ok(()),
+    }
+}
+
+// Ends the input: a frame that it ends within is refused.
+fn end_of_input(cutter: FrameCutter) -> ServeEnd
+    ensures { FinishesBy cutter result }
+{
+    match end_of(cutter.finish()) {
+        Ok(()) => ServeEnd::Ended,
+        Err(end) => end,
+    }
+}

@@ -1,0 +1,18 @@
+-- The errors that the mount answers, by their numbers in Linux errno.h.
+use Rattle.std.specs.Prelude.{ℕ}
+
+-- no memory
+abbrev pub enomem : ℕ
+enomem = 12
+
+-- a body, a name or a number that isn't allowed
+abbrev pub einval : ℕ
+einval = 22
+
+-- a request that the mount doesn't have
+abbrev pub enosys : ℕ
+enosys = 38
+
+-- no version of the protocol is agreed on
+abbrev pub eproto : ℕ
+eproto = 71

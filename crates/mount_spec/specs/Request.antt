@@ -1,0 +1,2 @@
+-- One file for each request: what refuses it, what it asks of the bucket, what it answers and what it leaves.
+pub mod Init

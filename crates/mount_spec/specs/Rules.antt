@@ -1,0 +1,90 @@
+-- The rules of a request: which refusal comes first, what is asked of the bucket, what is answered and left.
+use Rattle.std.specs.Prelude.{ℕ, Bool, true, false, ◌==◌, ◌&&◌, ◌||◌, not, List, [], ◌∷◌, Option, Some, None, if◌then◌else◌}
+use Rattle.std.specs.Option.{option_map_or}
+use Rattle.std.specs.List.{list_any}
+use Rattle.bucket_api.specs.declared.answers.Answer.{Answer}
+use Rattle.bucket_api.specs.Operation.{Operation}
+use Rattle.fuse_replies.specs.declared.reply.Reply.{Reply}
+use Rattle.fuse_replies.specs.declared.reply.Reply.TheVariants.{Error, Empty, Silent, Stat}
+use Rattle.fuse_requests.specs.declared.request.Request.{Request}
+use Rattle.fuse_requests.specs.declared.request.Request.TheVariants.{Forget, BatchForget, Interrupt, Init, Statfs, Destroy, Unknown}
+use Rattle.mount_model.specs.declared.config.Config.{Config}
+use Rattle.mount_spec.specs.Errno.{einval, enosys, eproto}
+use Rattle.mount_spec.specs.MountModel.{MountModel}
+use Rattle.mount_spec.specs.Request.Init as init
+
+-- An operation that was made on the bucket, its moment and its answer.
+pub record Observation : Type 0 where
+  pub op : Operation
+  pub moment : ℕ
+  pub answer : Answer
+
+-- What a plan says next: that the request is done with the bucket, or the operation to make.
+pub data Step : Type 0 where
+  finish : Step
+  ask : Operation → Step
+
+-- FORGET, BATCH_FORGET and INTERRUPT never get a reply, also where their bodies are none of the grammar
+abbrev pub is_silent : Request → Bool
+is_silent (Forget node count) = true
+is_silent (BatchForget pairs) = true
+is_silent Interrupt = true
+is_silent (Unknown opcode) = opcode == 2 || opcode == 36 || opcode == 42
+is_silent _ = false
+
+-- INIT, also where its body is none of the grammar
+abbrev pub is_init : Request → Bool
+is_init (Init major minor readahead flags) = true
+is_init (Unknown opcode) = opcode == 26
+is_init _ = false
+
+-- the opcodes of the requests that the mount serves: INIT, STATFS and DESTROY
+abbrev pub served_opcodes : List ℕ
+served_opcodes = 26 ∷ 17 ∷ 38 ∷ []
+
+-- an opcode that isn't served is ENOSYS, its body unread; a served one has a body outside the grammar
+abbrev pub unread : ℕ → ℕ
+unread opcode = if list_any (λ served. served == opcode) served_opcodes then einval else enosys
+
+-- what the request by itself is refused for, where a version is agreed on
+abbrev pub refusal : Request → Option ℕ
+refusal (Init major minor readahead flags) = None
+refusal Statfs = None
+refusal Destroy = None
+refusal (Unknown opcode) = Some (unread opcode)
+refusal _ = Some enosys
+
+-- the error with which a request that gets a reply is refused before anything is asked of the bucket
+abbrev pub early : MountModel → Request → Option ℕ
+early mount request =
+    if is_silent request then None
+    else if not mount.negotiated && not (is_init request) then Some eproto
+    else refusal request
+
+-- what a request that isn't refused asks of the bucket, after what it has observed
+abbrev pub plan_of : Config → MountModel → Request → List Observation → Step
+plan_of config mount _ seen = finish
+
+-- what a request that isn't refused is answered
+abbrev pub reply_of : Config → MountModel → Request → List Observation → Reply
+reply_of config mount (Init major minor readahead flags) seen = init.reply major minor readahead flags
+reply_of config mount Statfs seen = Stat
+reply_of config mount Destroy seen = Empty
+reply_of config mount _ seen = Silent
+
+-- what a request that isn't refused leaves
+abbrev pub mount_of : Config → MountModel → Request → List Observation → MountModel
+mount_of config mount (Init major minor readahead flags) seen = init.after mount major minor
+mount_of config mount _ seen = mount
+
+-- WHAT A REQUEST ASKS of the bucket next, after what it has observed
+abbrev pub plan : Config → MountModel → Request → List Observation → Step
+plan config mount request seen = option_map_or (λ errno. finish) (early mount request) (plan_of config mount request seen)
+
+-- WHAT IT IS ANSWERED
+abbrev pub reply_to : Config → MountModel → Request → List Observation → Reply
+reply_to config mount request seen = option_map_or Error (early mount request) (reply_of config mount request seen)
+
+-- WHAT IT LEAVES: a request that is refused leaves the mount as it was
+abbrev pub mount_after : Config → MountModel → Request → List Observation → MountModel
+mount_after config mount request seen = option_map_or (λ errno. mount) (early mount request) (mount_of config mount request seen)
