@@ -1,5 +1,5 @@
 -- A good input, with no count that rose, is served to its end, but for want of memory.
-use Rattle.std.proofs.Common.{◌≡◌, ◌≢◌, ◌<◌, ◌≤◌, ◌+◌, ◌-◌, ◌++◌, ◌⊎◌, inl, inr, [], List, ℕ, length, take, drop, subst, sym, refl, ap, ◌∙◌, arith, append-nil, append_assoc, length-append, Option, Some, None}
+use Rattle.std.proofs.Common.{◌≡◌, ◌<◌, ◌≤◌, ◌++◌, ◌⊎◌, inl, inr, [], List, ℕ, length, take, drop, subst, sym, refl, ap, ◌∙◌, arith, append-nil, append_assoc, length-append, Option, Some, None}
 use Rattle.std.specs.Io.KnownBytes.{Consumes, IsAtEnd}
 use Rattle.std.proofs.lemmas.List.{take-append-drop}
 use Rattle.io_ports.specs.Faults.{Rose}
@@ -8,7 +8,7 @@ use Rattle.fuse_frames.proofs.CutLemmas.{cuts_prefix, cuts_unique}
 use Rattle.fuse_frames.proofs.FrontLemmas.{bad_append, bad_told, unfinished_bad}
 use Rattle.mount_model.specs.declared.config.Config.{Config}
 use Rattle.gcsmount.specs.Ports.{Port}
-use Rattle.gcsmount.specs.Serve.{Answered, EndsBy, IsDoneOrNoMemory, IsGood, Streams, longest_input}
+use Rattle.gcsmount.specs.Serve.{EndsBy, IsDoneOrNoMemory, IsGood, Streams, longest_input}
 use Rattle.gcsmount.specs.Tool.{EndsWith}
 use Rattle.gcsmount.proofs.ServeLaws.{take_all}
 use Rattle.gcsmount.specs.declared.serve_end.ServeEnd.{ServeEnd}

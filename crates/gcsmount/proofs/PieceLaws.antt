@@ -1,15 +1,15 @@
 -- What serving one more piece comes to.
-use Rattle.std.proofs.Common.{◌≡◌, ◌≤◌, ◌+◌, ◌++◌, ◌∷◌, ◌⊎◌, inl, inr, [], List, ℕ, length, subst, sym, refl, ap, ◌∙◌, arith, append-nil, append_assoc, length-append, Result, Ok, Err}
+use Rattle.std.proofs.Common.{◌≡◌, ◌+◌, ◌++◌, inl, inr, [], List, ℕ, length, subst, sym, refl, ap, ◌∙◌, arith, append-nil, length-append, Result, Ok, Err}
 use Rattle.std.specs.List.{concat}
 use Rattle.std.proofs.lemmas.List.Folds.{concat-append}
 use Rattle.bucket_api.specs.BucketState.{empty_bucket}
-use Rattle.fuse_frames.specs.Cut.{Cuts, IsBelow40, IsOver, IsSound}
-use Rattle.fuse_frames.specs.Cutter.{Cutter, Fed, Feeds, StopsAt, pending, place}
+use Rattle.fuse_frames.specs.Cut.{Cuts}
+use Rattle.fuse_frames.specs.Cutter.{Cutter, Fed, pending, place}
 use Rattle.fuse_frames.proofs.CutLemmas.{cuts_append, cuts_exist}
 use Rattle.fuse_frames.specs.declared.fault.CutFault.{CutFault}
 use Rattle.fuse_frames.specs.declared.fault.CutFault.TheVariants.{NoMemory, LenBelow40, LenOver, Truncated}
 use Rattle.mount_model.specs.declared.config.Config.{Config}
-use Rattle.mount_spec.specs.OneThread.{RunState, Serves, BeginsServing, first_state}
+use Rattle.mount_spec.specs.OneThread.{Serves, BeginsServing, first_state}
 use Rattle.mount_spec.proofs.RunLaws.{Serves-append, BeginsServing-after}
 use Rattle.gcsmount.specs.Answers.{AnswersAll, AnswersSome, IsCause}
 use Rattle.gcsmount.specs.Ports.{Port}

@@ -1,13 +1,13 @@
 -- From the steps of serving to its ends.
-use Rattle.std.proofs.Common.{◌≡◌, ◌≢◌, ◌≤◌, ◌<◌, ◌+◌, ◌-◌, ◌++◌, ◌∷◌, inl, inr, [], List, ℕ, length, min, zero, suc, take, drop, subst, sym, refl, ap, ◌∙◌, arith, append-nil, length-append, length-take}
+use Rattle.std.proofs.Common.{◌≡◌, ◌≤◌, ◌<◌, ◌+◌, ◌-◌, ◌++◌, ◌∷◌, inl, inr, [], List, ℕ, length, min, zero, suc, take, subst, sym, refl, ap, ◌∙◌, arith, append-nil, length-append, length-take}
 use Rattle.std.specs.List.{concat}
-use Rattle.std.specs.Io.KnownBytes.{Appends, Consumes, IsAtEnd, Keeps}
+use Rattle.std.specs.Io.KnownBytes.{Consumes, IsAtEnd, Keeps}
 use Rattle.std.proofs.KnownBytes.{Appends-nil, Appends-trans, Consumes-kept, Consumes-nil, Consumes-trans}
 use Rattle.std.proofs.Math.Seq.{take-append-add, take-nil}
 use Rattle.io_ports.specs.Faults.{Rose}
 use Rattle.bucket_api.specs.BucketState.{empty_bucket}
 use Rattle.fuse_frames.specs.Cut.{Cuts, IsSound, IsUnfinished}
-use Rattle.fuse_frames.specs.Cutter.{Cutter, fed, fresh, place}
+use Rattle.fuse_frames.specs.Cutter.{Cutter, fed, fresh}
 use Rattle.fuse_frames.proofs.FrontLemmas.{sound_not_bad, unfinished_untold}
 use Rattle.mount_model.specs.declared.config.Config.{Config}
 use Rattle.mount_spec.specs.OneThread.{Serves, first_state}

@@ -58,7 +58,7 @@ Completes config mount request seen state (o ∷ more) =
     (plan config mount request seen ≡ ask o.op) × IsObserved state o
     × Completes config mount request (seen ++ o ∷ []) (after_operation state o.op) more
 
--- an operation by which a short call may not change the bucket: an insert, an update or a delete
+-- an operation that a call may have made before it stops short: any but an insert, an update or a delete
 abbrev pub IsHarmless : Operation → Type 0
 IsHarmless (insert name content pairs only stamp) = ⊥
 IsHarmless (update name pairs only only_meta stamp) = ⊥

@@ -77,14 +77,14 @@ abbrev pub mount_of : Config → MountModel → Request → List Observation →
 mount_of config mount (Init major minor readahead flags) seen = init.after mount major minor
 mount_of config mount _ seen = mount
 
--- WHAT A REQUEST ASKS of the bucket next, after what it has observed
+-- what a request asks of the bucket next, after what it has observed
 abbrev pub plan : Config → MountModel → Request → List Observation → Step
 plan config mount request seen = option_map_or (λ errno. finish) (early mount request) (plan_of config mount request seen)
 
--- WHAT IT IS ANSWERED
+-- what it is answered
 abbrev pub reply_to : Config → MountModel → Request → List Observation → Reply
 reply_to config mount request seen = option_map_or Error (early mount request) (reply_of config mount request seen)
 
--- WHAT IT LEAVES: a request that is refused leaves the mount as it was
+-- what it leaves: a request that is refused leaves the mount as it was
 abbrev pub mount_after : Config → MountModel → Request → List Observation → MountModel
 mount_after config mount request seen = option_map_or (λ errno. mount) (early mount request) (mount_of config mount request seen)

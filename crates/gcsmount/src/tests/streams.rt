@@ -37,7 +37,7 @@ impl Source for Recording<'_> {
 
     ghost left = { λ _. None };
 
-    ghost faults = { λ _. 2 ^ 64 - 1 };
+    ghost faults = { λ _. 18446744073709551615 };
 
     fn take(&mut self, buf: &mut [u8]) -> Result<usize, Failed> {
         if self.takes.push((buf.len(), self.put.get())).is_err() {

@@ -1,5 +1,5 @@
 -- The frame that waited longest is answered next.
-use Rattle.std.proofs.Common.{◌≡◌, ◌+◌, ◌++◌, ◌∷◌, [], List, ℕ, length, sym, ap, ◌∙◌, arith}
+use Rattle.std.proofs.Common.{◌≡◌, ◌++◌, ◌∷◌, [], length, sym, ap, ◌∙◌, arith}
 use Rattle.gcsmount.proofs.AnswerLaws.{AnswersAll-then, Answers-stopped}
 use Rattle.gcsmount.proofs.FrameLists.{length-concat-push, split-next}
 use Rattle.gcsmount.proofs.answer.answer_waiting.Goals as goal

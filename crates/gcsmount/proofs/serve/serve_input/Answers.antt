@@ -1,7 +1,6 @@
 -- Each turn serves one more piece, and each end is one of the stream.
-use Rattle.std.proofs.Common.{◌≡◌, ◌≤◌, ◌++◌, List, ℕ, length, take, drop, ◌∙◌, subst, sym, arith, length-append, length-take, vec_len}
+use Rattle.std.proofs.Common.{◌≡◌, ◌≤◌, ◌++◌, List, ℕ, length, take, drop, ◌∙◌, subst, arith, length-append, length-take}
 use Rattle.std.proofs.lemmas.List.{take_at}
-use Rattle.std.specs.Io.KnownBytes.{Consumes}
 use Rattle.gcsmount.specs.Ports.{port}
 use Rattle.gcsmount.specs.Serve.{longest_input}
 use Rattle.gcsmount.specs.Serving.{ServesOn, StopsAfter}

@@ -1,9 +1,8 @@
 -- The bytes of a take are served but for one past the longest input.
-use Rattle.std.proofs.Common.{◌≡◌, ◌-◌, ◌<◌, ◌≤◌, List, ℕ, min, take, subst}
+use Rattle.std.proofs.Common.{subst}
 use Rattle.gcsmount.specs.Ports.{port}
-use Rattle.gcsmount.specs.Serve.{longest_input}
 use Rattle.gcsmount.specs.Serving.{EndsIn, ServesOn}
-use Rattle.gcsmount.proofs.ServeLaws.{EndsIn-stops, ServesOn-past, ServesOn-whole}
+use Rattle.gcsmount.proofs.ServeLaws.{EndsIn-stops, ServesOn-past}
 use Rattle.gcsmount.proofs.serve.serve_taken.Goals as goal
 
 pub returns-in-Err-clause-served : goal.returns-in-Err-clause-served

@@ -1,7 +1,6 @@
 -- One word is the list of that word.
-use Rattle.std.proofs.Common.{◌≡◌, ◌∷◌, [], List, ℕ, ap, ◌∙◌, codes, arith}
+use Rattle.std.proofs.Common.{◌≡◌, ◌∷◌, [], ap, ◌∙◌, codes, arith}
 use Rattle.gcsmount.proofs.FrameLists.{only_item}
-use Rattle.gcsmount.specs.Tool.{serve_words}
 use Rattle.gcsmount.proofs.tool.is_serve.Goals as goal
 
 pub returns-in-len1 : goal.returns-in-len1
