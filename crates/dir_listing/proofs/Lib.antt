@@ -1,0 +1,3 @@
+mod PartLemmas
+mod DirLemmas
+mod FileLemmas

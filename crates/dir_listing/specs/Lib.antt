@@ -1,0 +1,4 @@
+-- The words that the contracts of `dir_listing` cite.
+pub mod Kinds
+pub mod Pages
+pub mod Steps

@@ -1,0 +1,9 @@
+//! What a directory shows, out of the pages of a bucket's list.
+#![tactic(auto)]
+
+mod entries;
+mod items;
+mod listing;
+mod parts;
+
+pub use listing::Listing;
