@@ -1,6 +1,6 @@
 -- The directories, name by name.
-use Rattle.std.proofs.Common.{◌≡◌, ℕ, ◌+◌, ◌<◌, ◌≤◌, Bool, true, false, not, cond, ◌&&◌, ◌||◌, List, [], ◌∷◌, ◌++◌, length, map, take, get_or, Option, Some, None, is_some, refl, sym, ap, ◌∙◌, map-append}
-use Rattle.std.proofs.lemmas.List.{take_more, take_all}
+use Rattle.std.proofs.Common.{◌≡◌, ℕ, ◌+◌, ◌<◌, ◌≤◌, Bool, true, false, cond, ◌&&◌, ◌||◌, List, [], ◌∷◌, ◌++◌, length, map, take, get_or, Option, Some, None, is_some, refl, sym, ap, ◌∙◌}
+use Rattle.std.proofs.lemmas.List.{map-append, take_more, take_all}
 use Rattle.std.proofs.lemmas.List.Folds.{list_any-append}
 use Rattle.std.specs.List.{list_any}
 use Rattle.std.specs.Str.{bytes_eq}
@@ -76,14 +76,6 @@ implied_more prefix items names i name q old new h e was is =
     ∙ ap (λ l. cond (can_show (under prefix []) q && (is_some (first_kind (dir_key (under prefix []) q) (map told items)) || l)) (Some Dir) None) (sym (any_more (dir_key (under prefix []) q) names i name h e))
 
 -- ---- all of them
-pub off_of : (b : Bool) → not b ≡ true → b ≡ false
-off_of true e = sym e
-off_of false e = refl
-
-pub on_of : (b : Bool) → not b ≡ false → b ≡ true
-on_of true e = refl
-on_of false e = sym e
-
 or_none : (s : Bool) → s ≡ (s || false)
 or_none true = refl
 or_none false = refl

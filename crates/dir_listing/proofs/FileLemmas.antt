@@ -67,8 +67,8 @@ dir_told prefix is_dir f part found can plain is =
 
 -- ---- an item that is no file
 pub file_none : (prefix name : List ℕ) (kind : NodeKind) (is_dir : List ℕ → Bool) (f : List ℕ → Option NodeKind) → ((q : List ℕ) → names_file prefix name q ≡ false) → (q : List ℕ) → kind_with is_dir f q ≡ kind_with is_dir (with_file prefix name kind f) q
-file_none prefix name kind is_dir f no =
-    kind_with-same is_dir f (with_file prefix name kind f) (λ part. ap (λ b. cond b (Some (first_of (f part) kind)) (f part)) (sym (no part)))
+file_none prefix name kind is_dir f miss =
+    kind_with-same is_dir f (with_file prefix name kind f) (λ part. ap (λ b. cond b (Some (first_of (f part) kind)) (f part)) (sym (miss part)))
 
 -- ---- an item of which the name is taken
 first_stays : (o : Option NodeKind) (kind : NodeKind) → is_some o ≡ true → o ≡ Some (first_of o kind)
@@ -124,13 +124,13 @@ file_put prefix name part kind is_dir f shown found can names at is none q =
     there : shown_of part (is_dir part) ≢ q → kind_with is_dir f q ≡ kind_with is_dir g q
     there n = elim (has_suffix q) as (λ t. has_suffix q ≡ t → cond t (cond (is_dir (bare_name q)) (f (bare_name q)) None) (cond (is_dir q) (Some Dir) (f q)) ≡ cond t (cond (is_dir (bare_name q)) (g (bare_name q)) None) (cond (is_dir q) (Some Dir) (g q))) [
       | true ↦ λ t. elim (is_dir (bare_name q)) as (λ d. is_dir (bare_name q) ≡ d → cond d (f (bare_name q)) None ≡ cond d (g (bare_name q)) None) [
-          | true ↦ λ d. other (bare_name q) (λ e. n (ap (λ x. shown_of x (is_dir x)) e ∙ ap (shown_of (bare_name q)) (d ∙ sym t) ∙ shown_of-bare_name q))
-          | false ↦ λ d. refl
-        ] refl
+        | true ↦ λ d. other (bare_name q) (λ e. n (ap (λ x. shown_of x (is_dir x)) e ∙ ap (shown_of (bare_name q)) (d ∙ sym t) ∙ shown_of-bare_name q))
+        | false ↦ λ d. refl
+      ] refl
       | false ↦ λ t. elim (is_dir q) as (λ d. is_dir q ≡ d → cond d (Some Dir) (f q) ≡ cond d (Some Dir) (g q)) [
-          | true ↦ λ d. refl
-          | false ↦ λ d. other q (λ e. n (ap (λ x. shown_of x (is_dir x)) e ∙ ap (shown_of q) d))
-        ] refl
+        | true ↦ λ d. refl
+        | false ↦ λ d. other q (λ e. n (ap (λ x. shown_of x (is_dir x)) e ∙ ap (shown_of q) d))
+      ] refl
     ] refl
 
 -- ---- the items that were put in so far

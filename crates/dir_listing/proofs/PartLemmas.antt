@@ -1,7 +1,7 @@
 -- The part that a path leaves after a prefix, and which names are those of a part.
-use Rattle.std.proofs.Common.{◌≡◌, ◌≢◌, ℕ, ◌<◌, ◌≤◌, Bool, true, false, ◌&&◌, List, [], ◌∷◌, ◌++◌, length, Option, Some, None, is_some, is_none, nat_le, refl, sym, ap, subst, ◌∙◌, arith, append_cancel_left, append_cancel_right}
+use Rattle.std.proofs.Common.{◌≡◌, ◌≢◌, ℕ, Bool, true, false, ◌&&◌, List, [], ◌∷◌, ◌++◌, Option, Some, None, is_some, refl, sym, ap, subst, ◌∙◌}
 use Rattle.std.proofs.lemmas.Bool.{false≢true}
-use Rattle.std.proofs.lemmas.Bool.Decides.{nat_tests}
+use Rattle.std.proofs.lemmas.List.{append_cancel_left, append_cancel_right}
 use Rattle.std.proofs.lemmas.Slice.Eq.{bytes_eq-Decides}
 use Rattle.std.specs.Bool.{Decides}
 use Rattle.std.specs.Str.{bytes_eq}
@@ -17,28 +17,12 @@ both : (a b : Bool) → a ≡ true → b ≡ true → (a && b) ≡ true
 both true b e f = f
 both false b e f = absurd (false≢true e)
 
-second : (a b : Bool) → (a && b) ≡ true → b ≡ true
-second true b e = e
-second false b e = absurd (false≢true e)
-
 -- two tests of which the second fails where the first passes
 not_both : {P : Type 0} (a b : Bool) → Decides b P → (a ≡ true → P → ⊥) → (a && b) ≡ false
-not_both true b d no = refutes b d (no refl)
-not_both false b d no = refl
-
-fits : (n : ℕ) → n ≤ 1023 → nat_le n 1023 ≡ true
-fits n h = grind (arith, nat_tests)
-
-fitting : (n : ℕ) → nat_le n 1023 ≡ true → n ≤ 1023
-fitting n e = grind (arith, nat_tests)
+not_both true b d miss = refutes b d (miss refl)
+not_both false b d miss = refl
 
 -- ---- paths that leave no part
-pub too_long : (prefix path : List ℕ) → 1023 < length path → (q : List ℕ) → can_show (under prefix []) q ≡ true → path ≢ prefix ++ q
-too_long prefix path long q c e =
-    let short : length (prefix ++ q) ≤ 1023 = fitting (length (prefix ++ q)) (second (is_none (name_fault q)) _ c) in
-    let same : length path ≡ length (prefix ++ q) = ap length e in
-    omega arith
-
 with_fault : (name : List ℕ) (fault : NameFault) → name_fault name ≡ Some fault → name_fault name ≢ None
 with_fault name fault r n = false≢true (ap is_some (sym n ∙ r))
 
@@ -56,20 +40,13 @@ no_component prefix path rest fault is r m q c e =
     let same : q ≡ rest = append_cancel_left prefix q rest (sym e ∙ is) in
     refused rest fault r m (subst (λ name. name_fault name ≡ None) same (no_fault-from_IsComponent q (component-can_show (under prefix []) q c)))
 
--- a component is a part that can be shown, where the path is not too long
-pub shows_part : (prefix path part : List ℕ) → path ≡ prefix ++ part → name_fault part ≡ None → length path ≤ 1023 → can_show (under prefix []) part ≡ true
-shows_part prefix path part is n h = both (is_none (name_fault part)) _ (ap is_none n) (fits (length (prefix ++ part)) (subst (λ p. length p ≤ 1023) is h))
-
 -- ---- names of no part
 pub names_file-none : (prefix name : List ℕ) → ((q : List ℕ) → can_show (under prefix []) q ≡ true → name ≢ prefix ++ q) → (q : List ℕ) → names_file prefix name q ≡ false
-names_file-none prefix name no q = not_both (can_show (under prefix []) q) _ (bytes_eq-Decides (file_key (under prefix []) q) name) (λ c e. no q c (sym e))
-
-pub names_dir-no_slash : (prefix name : List ℕ) → ((front : List ℕ) → name ≢ front ++ 47 ∷ []) → (q : List ℕ) → names_dir prefix name q ≡ false
-names_dir-no_slash prefix name no q = not_both (can_show (under prefix []) q) _ (bytes_eq-Decides (dir_key (under prefix []) q) name) (λ c e. no (prefix ++ q) (sym e))
+names_file-none prefix name miss q = not_both (can_show (under prefix []) q) _ (bytes_eq-Decides (file_key (under prefix []) q) name) (λ c e. miss q c (sym e))
 
 pub names_dir-none : (prefix name path : List ℕ) → name ≡ path ++ 47 ∷ [] → ((q : List ℕ) → can_show (under prefix []) q ≡ true → path ≢ prefix ++ q) → (q : List ℕ) → names_dir prefix name q ≡ false
-names_dir-none prefix name path is no q = not_both (can_show (under prefix []) q) _ (bytes_eq-Decides (dir_key (under prefix []) q) name)
-    (λ c e. no q c (sym (append_cancel_right (prefix ++ q) path (47 ∷ []) (e ∙ is))))
+names_dir-none prefix name path is miss q = not_both (can_show (under prefix []) q) _ (bytes_eq-Decides (dir_key (under prefix []) q) name)
+    (λ c e. miss q c (sym (append_cancel_right (prefix ++ q) path (47 ∷ []) (e ∙ is))))
 
 -- ---- names of one part
 -- a test that passes at one part alone

@@ -5,5 +5,7 @@ mod entries;
 mod items;
 mod listing;
 mod parts;
+#[cfg(test)]
+mod tests;
 
 pub use listing::Listing;
