@@ -1,3 +1,4 @@
-mod PartLemmas
 mod DirLemmas
 mod FileLemmas
+pub mod PageLemmas
+mod PartLemmas
