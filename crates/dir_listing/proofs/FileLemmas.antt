@@ -1,5 +1,5 @@
 -- The files and symlinks, item by item, behind the directories.
-use Rattle.std.proofs.Common.{◌≡◌, ◌≢◌, ℕ, ◌+◌, ◌<◌, ◌≤◌, Bool, true, false, cond, ◌&&◌, ◌||◌, List, [], ◌∷◌, ◌++◌, length, map, take, get_or, Option, Some, None, is_some, refl, sym, ap, subst, ◌∙◌}
+use Rattle.std.proofs.Common.{◌≡◌, ◌≢◌, ℕ, ◌+◌, ◌<◌, ◌≤◌, Bool, true, false, cond, ◌&&◌, ◌||◌, List, [], ◌∷◌, ◌++◌, length, map, take, get_or, Option, Some, None, is_some, refl, sym, ap, ◌∙◌}
 use Rattle.std.proofs.lemmas.Bool.{false≢true}
 use Rattle.std.proofs.lemmas.List.{take_all}
 use Rattle.std.proofs.lemmas.Slice.Eq.{bytes_eq-Decides}
@@ -9,7 +9,7 @@ use Rattle.object_names.specs.Components.{IsComponent}
 use Rattle.object_names.specs.Paths.{has_suffix, bare_name, shown_of}
 use Rattle.object_names.specs.ShownNames.{Listed, first_kind, can_show, dir_key, has_dir, kind_shown}
 use Rattle.object_names.specs.declared.shown.NodeKind.{NodeKind}
-use Rattle.object_names.specs.declared.shown.NodeKind.TheVariants.{Dir, File, Symlink}
+use Rattle.object_names.specs.declared.shown.NodeKind.TheVariants.{Dir}
 use Rattle.object_names.proofs.EndLemmas.{ends_in-push, without_end-push, no_suffix, shown_of-bare_name}
 use Rattle.object_names.proofs.ShownLemmas.{component-can_show, find-front, cond_same}
 use Rattle.dir_listing.specs.Kinds.{file_or_link}

@@ -1,11 +1,11 @@
 -- The part that a path leaves after a prefix, and which names are those of a part.
-use Rattle.std.proofs.Common.{◌≡◌, ◌≢◌, ℕ, Bool, true, false, ◌&&◌, List, [], ◌∷◌, ◌++◌, Option, Some, None, is_some, refl, sym, ap, subst, ◌∙◌}
+use Rattle.std.proofs.Common.{◌≡◌, ◌≢◌, ℕ, Bool, true, false, ◌&&◌, List, [], ◌∷◌, ◌++◌, Some, None, is_some, refl, sym, ap, subst, ◌∙◌}
 use Rattle.std.proofs.lemmas.Bool.{false≢true}
 use Rattle.std.proofs.lemmas.List.{append_cancel_left, append_cancel_right}
 use Rattle.std.proofs.lemmas.Slice.Eq.{bytes_eq-Decides}
 use Rattle.std.specs.Bool.{Decides}
 use Rattle.std.specs.Str.{bytes_eq}
-use Rattle.object_names.specs.Components.{name_fault, Refuses, IsComponent}
+use Rattle.object_names.specs.Components.{name_fault, Refuses}
 use Rattle.object_names.specs.ShownNames.{can_show, file_key, dir_key}
 use Rattle.object_names.specs.declared.component.NameFault.{NameFault}
 use Rattle.object_names.specs.declared.component.NameFault.TheVariants.{NoMemory, Empty, TooLong, NotUtf8, Dot, Slash, Control}

@@ -1,6 +1,6 @@
 -- What an object that a page shows is in a directory. gcsfuse keeps the target of a symlink under a metadata key of the
 -- object, and so tells symlinks from files.
-use Rattle.std.specs.Prelude.{ℕ, Bool, List, codes, if◌then◌else◌}
+use Rattle.std.specs.Prelude.{Bool, List, codes, if◌then◌else◌}
 use Rattle.std.specs.List.{list_any}
 use Rattle.std.specs.Str.{bytes_eq}
 use Rattle.bucket_api.specs.Metadata.{Metadata}
