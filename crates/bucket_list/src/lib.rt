@@ -5,6 +5,8 @@ mod listing;
 mod slash;
 mod start;
 mod steps;
+#[cfg(test)]
+mod tests;
 mod walk;
 
 pub use listing::page;
