@@ -16,6 +16,11 @@ const INIT: &str =
     "380000001a0000000100000000000000000000000000000000000000000000000000000000000000\
 070000001f00000000000200ffffffff";
 
+// The first 55 of these 56 bytes.
+const CUT_INIT: &str =
+    "380000001a0000000100000000000000000000000000000000000000000000000000000000000000\
+070000001f00000000000200ffffff";
+
 /// Its reply: 7.31, the read-ahead as offered, three flags granted, 12 and 9 requests in the background, writes
 /// of at most 131,072 bytes, times by the nanosecond.
 const INIT_DONE: &str =
@@ -248,13 +253,7 @@ fn input_that_is_no_frame_is_refused_at_its_place(rt: HostRuntime) -> Result<(),
             ports,
             (1, INIT_DONE, "refused 17 at 56\n"),
         )?;
-        serves(
-            &rt,
-            alloc,
-            "380000001a0000000100",
-            ports,
-            (1, "", "refused 17 at 0\n"),
-        )?;
+        serves(&rt, alloc, CUT_INIT, ports, (1, "", "refused 17 at 0\n"))?;
     }
     serves(&rt, alloc, below, Ports { notes: 1, ..SOUND }, (4, "", ""))
 }
