@@ -13,6 +13,7 @@ pub(crate) struct Recording<'a> {
 }
 
 impl<'a> Recording<'a> {
+    /// A source of these bytes, in pieces of at most so many, beside a sink that counts what it takes.
     pub(crate) fn new(
         alloc: Global,
         bytes: &'a [u8],
@@ -27,6 +28,7 @@ impl<'a> Recording<'a> {
         }
     }
 
+    /// Of each take, how many bytes it asked for and how many the sink had taken.
     pub(crate) fn takes(&self) -> &[(usize, u64)] {
         self.takes.as_slice()
     }
@@ -59,6 +61,7 @@ pub(crate) struct Counting<'a> {
 }
 
 impl<'a> Counting<'a> {
+    /// A sink that counts its bytes there.
     pub(crate) fn new(put: &'a Cell<u64>) -> Counting<'a> {
         Counting { put }
     }
@@ -88,6 +91,7 @@ pub(crate) struct Endless {
 }
 
 impl Endless {
+    /// A source of this frame and then of WRITE frames.
     pub(crate) fn new(alloc: Global, first: &[u8]) -> Result<Endless, AllocError> {
         let mut bytes = Vec::from_slice(alloc, first)?;
         // A len of 135,168, and the opcode 16.
@@ -103,6 +107,7 @@ impl Endless {
         })
     }
 
+    /// How many bytes were taken.
     pub(crate) fn taken(&self) -> u64 {
         self.taken
     }
