@@ -6,7 +6,7 @@ ghost use Rattle.bucket_list.specs.Slash.{NoSlash, IsBeforeSlash};
 use io_ports::{NoMemory, Text};
 use std::alloc::Global;
 
-// What follows the prefix in the text, where the text begins with it.
+/// What follows the prefix in the text, where the text begins with it.
 pub(crate) fn after_prefix<'a>(text: &'a str, prefix: &str) -> Option<&'a str>
     ensures { MatchOption result (starts_with nat_eq text.entry.now prefix.now ≡ false) (λ rest. text.entry.now ≡ prefix.now ++ rest.now) }
 {
@@ -16,7 +16,7 @@ pub(crate) fn after_prefix<'a>(text: &'a str, prefix: &str) -> Option<&'a str>
     }
 }
 
-// What stands before the first slash of the text, where a listing by slash ends a key at it.
+/// What stands before the first slash of the text, where a listing by slash ends a key at it.
 pub(crate) fn before_slash(text: &str, slash: bool) -> Option<&str>
     ensures { MatchOption result (IsTrue slash → NoSlash text.now) (λ part. IsTrue slash × IsBeforeSlash text.now part.now) }
 {
@@ -29,7 +29,7 @@ pub(crate) fn before_slash(text: &str, slash: bool) -> Option<&str>
     }
 }
 
-// The three texts one after another.
+/// The three texts one after another.
 pub(crate) fn joined(alloc: Global, prefix: &str, part: &str, end: &str) -> Result<Text, NoMemory>
     ensures ok { IfOk result (λ text. text ≡ prefix.now ++ (part.now ++ end.now)) }
 {

@@ -9,9 +9,9 @@ use std::alloc::Global;
 use std::cmp::Ordering;
 use std::ops::Bound;
 
-// The bound from which the names are met whose keys stand after the one asked. Where that one stands
-// under a key that ends at a slash, the names begin past all that stand under it: `0` is the byte
-// after `/`.
+/// The bound from which the names are met whose keys stand after the one asked. Where that one stands
+/// under a key that ends at a slash, the names begin past all that stand under it: `0` is the byte
+/// after `/`.
 pub(crate) fn start(
     alloc: Global,
     prefix: &str,

@@ -15,7 +15,7 @@ use std::collections::btree_map::Range;
 use std::ops::Bound;
 
 impl<'a> Walk<'a> {
-    // A walk over the keys that stand after the one asked.
+    /// A walk over the keys that stand after the one asked.
     pub(crate) fn new(
         alloc: Global,
         objects: &'a BTreeMap<Text, Object>,
@@ -41,7 +41,7 @@ impl<'a> Walk<'a> {
         })
     }
 
-    // Whether a key is left.
+    /// Whether a key is left.
     pub(crate) fn has_more(&self) -> bool
         requires { IsWalk self.now }
         ensures { IsTrue result ↔ (keys_left self.now ≢ []) }
@@ -49,7 +49,7 @@ impl<'a> Walk<'a> {
         self.ahead.is_some()
     }
 
-    // The next key. After `NoMemory` the walk is as it was.
+    /// The next key. After `NoMemory` the walk is as it was.
     pub(crate) fn next(&mut self, alloc: Global) -> Result<Option<Key<'a>>, NoMemory>
         requires { IsWalk self.old }
         ensures walk { IsWalk self.new }

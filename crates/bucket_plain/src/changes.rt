@@ -12,6 +12,7 @@ use io_ports::{Bytes, NoMemory, Row, Text};
 use std::alloc::Global;
 
 impl Plain {
+    /// A new generation under the name, where the live one is the one asked for. `NoMemory` leaves all as it was.
     pub(crate) fn insert(
         &mut self,
         alloc: Global,
@@ -38,6 +39,7 @@ impl Plain {
         self.put(alloc, name, object)
     }
 
+    /// More pairs for the live generation, which gets one more metageneration. `NoMemory` leaves all as it was.
     pub(crate) fn update(
         &mut self,
         alloc: Global,
@@ -65,6 +67,7 @@ impl Plain {
         Ok(Answer::Meta(answer))
     }
 
+    /// Takes the live object away, where its generation is the one asked for. It takes no memory.
     pub(crate) fn delete(&mut self, name: &Text, only: Option<u64>) -> Answer
         ensures answer { result ≡ answer_to (delete name.now only) self.old }
         ensures after { self.new ≡ state_after (delete name.now only) self.old }
@@ -79,6 +82,7 @@ impl Plain {
         Answer::Done
     }
 
+    /// A new generation under `to` with the content and pairs of a live one. `NoMemory` leaves all as it was.
     pub(crate) fn copy_object(
         &mut self,
         alloc: Global,

@@ -8,7 +8,7 @@ use io_ports::{NoMemory, Row};
 use std::alloc::Global;
 use std::cmp::Ordering;
 
-// The present pairs with each of the others added or put in its place, in one pass over both.
+/// The present pairs with each of the others added or put in its place, in one pass over both.
 pub(crate) fn merged(
     alloc: Global,
     present: &Row<Pair>,

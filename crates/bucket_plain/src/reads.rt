@@ -11,7 +11,7 @@ use io_ports::{Bytes, NoMemory, Text};
 use std::alloc::Global;
 
 impl Plain {
-    // The live object of a name.
+    /// The live object of a name.
     pub(crate) fn live(&self, name: &Text) -> Option<&Object>
         ensures found { option_copied result ≡ object_at self.now name.now }
         ensures bucket { IsBucket self.now }
@@ -19,6 +19,7 @@ impl Plain {
         self.objects.get(name)
     }
 
+    /// The metadata of the live object.
     pub(crate) fn stat(&self, alloc: Global, name: &Text) -> Result<Answer, NoMemory>
         ensures ok { IfOk result (λ answer. answer ≡ answer_to (stat name.now) self.now) }
     {
@@ -28,6 +29,7 @@ impl Plain {
         }
     }
 
+    /// At most `count` bytes from `first` on of a generation that is live, fewer at its end.
     pub(crate) fn read(
         &self,
         alloc: Global,
@@ -49,6 +51,7 @@ impl Plain {
         }
     }
 
+    /// One page of the names.
     pub(crate) fn list(
         &self,
         alloc: Global,
