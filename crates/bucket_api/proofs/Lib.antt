@@ -1,3 +1,4 @@
 pub mod BucketLaws
 pub mod PairLaws
+pub mod RoomLaws
 pub mod TextOrder

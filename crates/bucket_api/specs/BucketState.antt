@@ -55,3 +55,8 @@ pub record IsBucket (b : BucketState) : Type 0 where
 pub record HasRoom (b : BucketState) : Type 0 where
   pub last : b.last < 2 ^ 64 - 1
   pub metageneration : (name : List ℕ) → metageneration_at b name < 2 ^ 64 - 1
+
+-- no generation and no metageneration is above this number
+pub record IsWithin (most : ℕ) (b : BucketState) : Type 0 where
+  pub last : b.last ≤ most
+  pub metageneration : (name : List ℕ) → metageneration_at b name ≤ most
