@@ -7,6 +7,8 @@ mod names;
 mod objects;
 mod operations;
 mod pages;
+#[cfg(test)]
+mod tests;
 
 pub use answers::Answer;
 pub use events::{Event, Mode};

@@ -5,5 +5,7 @@ mod changes;
 mod pairs;
 mod plain;
 mod reads;
+#[cfg(test)]
+mod tests;
 
 pub use plain::Plain;
