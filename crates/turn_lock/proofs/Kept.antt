@@ -11,14 +11,14 @@ use Rattle.atomic_table.specs.Table.{State, Me, step, keeps, takes, gives, Allow
 use Rattle.atomic_table.proofs.Lists.{set_here, set_else, exchanged}
 use Rattle.turn_lock.specs.declared.known.Line.{Line}
 use Rattle.turn_lock.specs.declared.known.Known.{Known}
-use Rattle.turn_lock.specs.declared.known.Numbers.{Numbers}
-use Rattle.turn_lock.specs.declared.known.Numbers.TheVariants.{Only, AllBut}
-use Rattle.turn_lock.specs.Numbers.{has, HasAll, without, together}
-use Rattle.turn_lock.specs.Book.{line, GoesOn, StandsFor}
+use Rattle.lane_spec.specs.declared.Numbers.{Numbers}
+use Rattle.lane_spec.specs.declared.Numbers.TheVariants.{Only, AllBut}
+use Rattle.lane_spec.specs.Numbers.{has, HasAll, without, together}
+use Rattle.turn_lock.specs.Book.{line, maker, GoesOn, StandsFor}
 use Rattle.turn_lock.specs.Rule.{Rule, IsFree, IsTaken, Knows, holds, IsApart, first_known, spent}
 use Rattle.turn_lock.specs.Steps.{took, appended, wrote, left, glanced, giving, given, meeting, settling, settled}
-use Rattle.turn_lock.proofs.Held.{has-without, has-together}
-use Rattle.turn_lock.proofs.Going.{or_false, GoesOn-refl, GoesOn-push, GoesOn-fewer, longer_goes_on, whole_book}
+use Rattle.lane_spec.proofs.Held.{has-without, has-together}
+use Rattle.lane_spec.proofs.Going.{or_false, GoesOnBy-refl, GoesOnBy-push, GoesOnBy-fewer, longer_goes_on, whole_book}
 use Rattle.turn_lock.proofs.Views.{at_length, each_set, each_end, apart_set, apart_cut, apart_joined, entered_set, entered_end}
 
 not_held : (b : Bool) → (b ≡ true → ⊥) → b ≡ false
@@ -178,7 +178,7 @@ module _ {S E H : Type 0} (entries : S → List E) (home : S → H) (may_make : 
               alone = each_set (λ j u. u.entered ≡ true → j ≡ id) s.views id w (λ _. refl) (λ j u ne e h. absurd (true≢false (sym h ∙ p.nobody j u e)));
             })
             (λ j u _ e. r.knows j u e)
-            (record { lock = kn.lock; seen = GoesOn-refl v.held r.book; met = kn.met; inside = λ _. (refl, own) })
+            (record { lock = kn.lock; seen = GoesOnBy-refl maker v.held r.book; met = kn.met; inside = λ _. (refl, own) })
             (λ n h. h) r.apart,
         (
           (λ _. record {
@@ -248,14 +248,14 @@ module _ {S E H : Type 0} (entries : S → List E) (home : S → H) (may_make : 
             let lacks = or_false (has u.held v.number) (has u.met_held v.number)
             (not_held (holds u v.number) (λ h. ne (r.apart v.number j id u v f at h (ap (λ t. t || has v.met_held v.number) within.1)))) in record {
               lock = ku.lock;
-              seen = GoesOn-push u.held u.seen r.book x ku.seen lacks.0;
-              met = GoesOn-push u.met_held u.met r.book x ku.met lacks.1;
+              seen = GoesOnBy-push maker u.held u.seen r.book x ku.seen lacks.0;
+              met = GoesOnBy-push maker u.met_held u.met r.book x ku.met lacks.1;
               inside = λ h. absurd (ne (hold.2 j u f h));
             })
             (record {
               lock = kn.lock;
-              seen = subst (λ l. GoesOn v.held (v.seen ++ x ∷ []) (l ++ x ∷ [])) within.0 (GoesOn-refl v.held (v.seen ++ x ∷ []));
-              met = GoesOn-push v.met_held v.met r.book x kn.met (only_lacks v.met_held v.number quiet);
+              seen = subst (λ l. GoesOn v.held (v.seen ++ x ∷ []) (l ++ x ∷ [])) within.0 (GoesOnBy-refl maker v.held (v.seen ++ x ∷ []));
+              met = GoesOnBy-push maker v.met_held v.met r.book x kn.met (only_lacks v.met_held v.number quiet);
               inside = λ _. (ap (λ l. l ++ x ∷ []) within.0, within.1);
             })
             (λ n h. h) r.apart,
@@ -297,15 +297,15 @@ module _ {S E H : Type 0} (entries : S → List E) (home : S → H) (may_make : 
       (same_place s.views id v w r.book r.turn r.turn s.homes at same (λ e. e) (λ h. h) r.place) (λ j u _ e. r.knows j u e) known fewer_held r.apart
 
   -- Glancing: a load of the length shows the book
-  pub glances : (slots id : ℕ) (v : Known S E) (c : List (ℕ × Option S)) (a b : ℕ) → Allows (Rule entries home may_make first) slots id (v, c) 1 (λ n. n) (glanced (step slots 1 a b none) (v, c))
+  pub glances : (slots id : ℕ) (v : Known S E) (c : List (ℕ × Option S)) (a b : ℕ) → Allows (Rule entries home may_make first) slots id (v, c) 1 (λ n. n) (glanced may_make (step slots 1 a b none) (v, c))
   glances slots id v c a b s r len at low =
       let w : Known S E = record v { seen = r.book } in
       let kn = r.knows id v at in (
         w,
         keeps,
         tt,
-        loads v w id s r at refl (record { lock = kn.lock; seen = GoesOn-refl v.held r.book; met = kn.met; inside = λ h. (refl, (kn.inside h).1) }) (λ n h. h),
-        (refl, refl, kn.seen, length_found s.words r.turn (length r.book) r.words),
+        loads v w id s r at refl (record { lock = kn.lock; seen = GoesOnBy-refl maker v.held r.book; met = kn.met; inside = λ h. (refl, (kn.inside h).1) }) (λ n h. h),
+        (refl, refl, kn.seen, length_found s.words r.turn (length r.book) r.words, r.made),
       )
 
   -- Settling: a load after which the seat has the longer of two lists, and the numbers of both
@@ -313,7 +313,7 @@ module _ {S E H : Type 0} (entries : S → List E) (home : S → H) (may_make : 
   settles slots id v c a b out s r len at low =
       let w : Known S E = settling v in
       let kn = r.knows id v at in
-      let later = longer_goes_on v.held v.met_held v.seen v.met r.book kn.seen kn.met in (
+      let later = longer_goes_on maker v.held v.met_held v.seen v.met r.book kn.seen kn.met in (
         w,
         keeps,
         tt,
@@ -340,14 +340,14 @@ module _ {S E H : Type 0} (entries : S → List E) (home : S → H) (may_make : 
         knows = each_end (λ j u. Knows first r.book u) (set s.views id left') right'
             (record {
               lock = kn.lock;
-              seen = GoesOn-fewer v.held (Only (n ∷ [])) v.seen r.book (λ k h. one_held v.held n k holds_n (only_one n k (ap (λ b. b || false) h))) kn.seen;
+              seen = GoesOnBy-fewer maker v.held (Only (n ∷ [])) v.seen r.book (λ k h. one_held v.held n k holds_n (only_one n k (ap (λ b. b || false) h))) kn.seen;
               met = (r.book, refl, λ k d l. refl);
               inside = λ h. absurd (true≢false (sym h));
             })
             (each_set (λ j u. Knows first r.book u) s.views id left'
             (record {
               lock = kn.lock;
-              seen = GoesOn-fewer v.held (without v.held n) v.seen r.book (λ k h. (and_parts (has v.held k) (not (eqb k n)) (sym (has-without v.held n k) ∙ h)).0) kn.seen;
+              seen = GoesOnBy-fewer maker v.held (without v.held n) v.seen r.book (λ k h. (and_parts (has v.held k) (not (eqb k n)) (sym (has-without v.held n k) ∙ h)).0) kn.seen;
               met = kn.met;
               inside = λ h. absurd (true≢false (sym h ∙ out));
             })
@@ -394,7 +394,7 @@ module _ {S E H : Type 0} (entries : S → List E) (home : S → H) (may_make : 
       nobody = λ i v e. only_first (λ j u. u.entered ≡ false) (first_known first) refl i v e;
     };
     knows = λ i v e. only_first (λ j u. Knows first [] u) (first_known first)
-        (record { lock = λ x e. sym (some_one e); seen = GoesOn-refl (AllBut []) []; met = GoesOn-refl (Only []) []; inside = λ h. absurd (true≢false (sym h)) }) i v e;
+        (record { lock = λ x e. sym (some_one e); seen = GoesOnBy-refl maker (AllBut []) []; met = GoesOnBy-refl maker (Only []) []; inside = λ h. absurd (true≢false (sym h)) }) i v e;
     apart = λ n i j v w ei ej _ _. only_index (first_known first) i v ei ∙ sym (only_index (first_known first) j w ej);
   }
 
@@ -408,7 +408,7 @@ module _ {S E H : Type 0} (entries : S → List E) (home : S → H) (may_make : 
       (λ (p : IsFree entries home may_make first r.book r.turn f.0.homes f.0.views). (
         p.state,
         f.4 0 (Some p.state) (ap (λ hs. get_elem? hs 0) p.slot),
-        subst (λ (y : S × List (Line E)). StandsFor entries home may_make y.0 y.1 p.state) (λ k. (sym (kn.lock x is) k, whole_book v.held v.seen r.book all kn.seen k)) p.stands,
+        subst (λ (y : S × List (Line E)). StandsFor entries home may_make y.0 y.1 p.state) (λ k. (sym (kn.lock x is) k, whole_book maker v.held v.seen r.book all kn.seen k)) p.stands,
       ))
       (λ (p : IsTaken r.turn f.0.homes f.0.views).
       let inside = ((r.knows p.holder p.known p.there).inside p.entered).1 in

@@ -1,5 +1,3 @@
-pub mod Held
-pub mod Going
 pub mod Views
 pub mod Kept
 pub mod Shown

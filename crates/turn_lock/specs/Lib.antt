@@ -1,4 +1,3 @@
-pub mod Numbers
 pub mod Book
 pub mod Seats
 pub mod Rule

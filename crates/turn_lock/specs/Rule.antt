@@ -1,14 +1,14 @@
 -- The rule of the lock's table. Its words are the turn and the length of the book, and its one slot has the state.
-use Rattle.std.specs.Prelude.{◌≡◌, ◌⊎◌, ℕ, ◌^◌, ◌<◌, ◌||◌, Bool, true, false, List, [], ◌∷◌, length, All, Option, Some, None}
+use Rattle.std.specs.Prelude.{◌≡◌, ◌⊎◌, ℕ, ◌^◌, ◌<◌, ◌||◌, Bool, true, false, List, [], ◌∷◌, length, Option, Some, None}
 use mathlib.Core.Option.{some, none}
 use mathlib.Core.Option as maybe
 use lib.ListN.{get_elem?}
 use Rattle.atomic_table.specs.Table.{State}
 use Rattle.turn_lock.specs.declared.known.Line.{Line}
 use Rattle.turn_lock.specs.declared.known.Known.{Known}
-use Rattle.turn_lock.specs.declared.known.Numbers.TheVariants.{Only, AllBut}
-use Rattle.turn_lock.specs.Numbers.{has}
-use Rattle.turn_lock.specs.Book.{GoesOn, StandsFor}
+use Rattle.lane_spec.specs.declared.Numbers.TheVariants.{Only, AllBut}
+use Rattle.lane_spec.specs.Numbers.{has}
+use Rattle.turn_lock.specs.Book.{AllMade, GoesOn, StandsFor}
 
 module _ {S E : Type 0} where
   -- what the first seat knows
@@ -58,7 +58,7 @@ pub record Rule {S E H : Type 0} (entries : S → List E) (home : S → H) (may_
   pub turn : ℕ
   pub words : s.words ≡ turn ∷ length book ∷ []
   pub short : length book < 2 ^ 63
-  pub made : All (λ x. may_make x.by x.entry) book
+  pub made : AllMade may_make book
   pub place : IsFree entries home may_make first book turn s.homes s.views ⊎ IsTaken turn s.homes s.views
   pub knows : (i : ℕ) (v : Known S E) → get_elem? s.views i ≡ some v → Knows first book v
   pub apart : IsApart s.views

@@ -3,8 +3,8 @@ use Rattle.std.specs.Prelude.{◌≡◌, ℕ, Bool, true, false, List, [], ◌�
 use mathlib.Core.Bool.{true≢false}
 use mathlib.Core.Path.{sym}
 use Rattle.atomic_table.specs.Seated.{TableId}
-use Rattle.turn_lock.specs.declared.known.Numbers.{Numbers}
-use Rattle.turn_lock.specs.declared.known.Numbers.TheVariants.{Only, AllBut}
+use Rattle.lane_spec.specs.declared.Numbers.{Numbers}
+use Rattle.lane_spec.specs.declared.Numbers.TheVariants.{Only, AllBut}
 use Rattle.turn_lock.specs.declared.known.Line.{Line}
 use Rattle.turn_lock.specs.declared.known.Known.{Known}
 use Rattle.turn_lock.specs.Book.{line, entries_of}

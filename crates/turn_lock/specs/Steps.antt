@@ -2,9 +2,10 @@
 use Rattle.std.specs.Prelude.{◌≡◌, ◌≢◌, ℕ, false, true, List, [], ◌∷◌, ◌++◌, length, Option, Some}
 use Rattle.atomic_table.specs.Table.{Step, Me, rest}
 use Rattle.turn_lock.specs.declared.known.Known.{Known}
-use Rattle.turn_lock.specs.declared.known.Numbers.TheVariants.{Only}
-use Rattle.turn_lock.specs.Numbers.{without, together}
-use Rattle.turn_lock.specs.Book.{line, longer, GoesOn, StandsFor}
+use Rattle.lane_spec.specs.declared.Numbers.TheVariants.{Only}
+use Rattle.lane_spec.specs.Numbers.{without, together}
+use Rattle.lane_spec.specs.Going.{longer}
+use Rattle.turn_lock.specs.Book.{line, AllMade, GoesOn, StandsFor}
 
 -- what a seat knows, and the slots that are out with it
 abbrev pub Sat : Type 0 → Type 0 → Type 0
@@ -41,9 +42,9 @@ module _ {S E : Type 0} where
   left step old found new = new ≡ (record old.0 { entered = false }, rest old.1)
 
   -- the seat has seen the book, whose length was found
-  abbrev pub glanced : At S → Sat S E → ℕ → Sat S E → Type 0
-  glanced step old found new =
-      (new.1 ≡ old.1) × (new.0 ≡ record old.0 { seen = new.0.seen }) × GoesOn old.0.held old.0.seen new.0.seen × (found ≡ length new.0.seen)
+  abbrev pub glanced : (ℕ → E → Type 0) → At S → Sat S E → ℕ → Sat S E → Type 0
+  glanced may_make step old found new =
+      (new.1 ≡ old.1) × (new.0 ≡ record old.0 { seen = new.0.seen }) × GoesOn old.0.held old.0.seen new.0.seen × (found ≡ length new.0.seen) × AllMade may_make new.0.seen
 
   -- what a seat knows that has given a number away
   abbrev pub giving : ℕ → Known S E → Known S E

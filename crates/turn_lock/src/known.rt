@@ -1,16 +1,11 @@
 //! What a seat knows. These types are for the proofs alone: no value of them is made.
+use lane_spec::Numbers;
 use std::collections::LinkedList;
 
 /// An entry of the book, with the number of the seat that made it.
 pub struct Line<E> {
     pub by: u64,
     pub entry: E,
-}
-
-/// A set of numbers: a list, or all but a list.
-pub enum Numbers {
-    Only(LinkedList<u64>),
-    AllBut(LinkedList<u64>),
 }
 
 /// What a seat's thread knows of the lock.

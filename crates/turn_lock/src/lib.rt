@@ -11,6 +11,6 @@ mod tests;
 mod turn;
 
 pub use booked::Booked;
-pub use known::{Line, Numbers};
+pub use known::Line;
 pub use seat::Seat;
 pub use turn::Turn;

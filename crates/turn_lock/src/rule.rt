@@ -51,8 +51,8 @@ impl<S, E> Play<Option<S>, Known<S, E>> for Leave {
 
 pub(crate) struct Glance;
 
-impl<S, E> Play<Option<S>, Known<S, E>> for Glance {
-    ghost then = { glanced };
+impl<S: Booked> Play<Option<S>, Known<S, S::Entry>> for Glance {
+    ghost then = { glanced S.may_make };
 }
 
 // A number is given away. A call at `Brand` picks which.

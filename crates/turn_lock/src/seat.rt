@@ -22,7 +22,7 @@ pub struct Seat<S: Booked> {
 
 impl<S: Booked> Model for Seat<S> {
     ghost use Rattle.std.specs.Prelude.{◌≡◌, []};
-    ghost use Rattle.turn_lock.specs.declared.known.Numbers.TheVariants.{Only};
+    ghost use Rattle.lane_spec.specs.declared.Numbers.TheVariants.{Only};
     ghost use Rattle.turn_lock.specs.Seats.{SeatState, seat_state, slots_out};
 
     ghost Value = { SeatState S S.Entry };

@@ -1,7 +1,7 @@
 //! The steps on the table, each by a place at it.
 ghost use Rattle.std.specs.Prelude.{◌≡◌, ◌+◌, ◌^◌, ◌<◌, suc, true, false, length, slice_get, [], ◌∷◌, IsTrue, Some, None, MatchBool};
-ghost use Rattle.turn_lock.specs.declared.known.Numbers.TheVariants.{Only};
-ghost use Rattle.turn_lock.specs.Numbers.{has};
+ghost use Rattle.lane_spec.specs.declared.Numbers.TheVariants.{Only};
+ghost use Rattle.lane_spec.specs.Numbers.{has};
 ghost use Rattle.turn_lock.specs.Book.{GoesOn};
 ghost use Rattle.turn_lock.specs.Steps.{Enters, appended, giving, given, meeting, settling};
 

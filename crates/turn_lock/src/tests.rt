@@ -1,5 +1,5 @@
 ghost use Rattle.std.specs.Prelude.{◌≡◌, [], IsTrue, IsFalse, IfOk};
-ghost use Rattle.turn_lock.specs.Numbers.{has};
+ghost use Rattle.lane_spec.specs.Numbers.{has};
 ghost use Rattle.turn_lock.specs.Seats.{first_seat};
 
 use crate::{Booked, Seat, Turn};

@@ -1,7 +1,8 @@
 //! The lock.
 ghost use Rattle.std.specs.Prelude.{◌≡◌, ◌^◌, ◌<◌, true, false, [], length, IsTrue, IsFalse, IfOk};
-ghost use Rattle.turn_lock.specs.Numbers.{has, HasAll, without, together};
-ghost use Rattle.turn_lock.specs.Book.{GoesOn, MayAppend, StandsFor, longer};
+ghost use Rattle.lane_spec.specs.Numbers.{has, HasAll, without, together};
+ghost use Rattle.lane_spec.specs.Going.{longer};
+ghost use Rattle.turn_lock.specs.Book.{AllMade, GoesOn, MayAppend, StandsFor};
 ghost use Rattle.turn_lock.specs.Seats.{Lock, Appends, first_seat, split_off};
 
 use crate::booked::Booked;
@@ -123,11 +124,13 @@ impl<S: Booked> Turn<S> {
         take_in(&self.table.shared, &mut seat.place, place);
     }
 
-    /// Looks at the book, and answers how many entries it has. It waits for nobody.
+    /// Looks at the book, and answers how many entries it has. It waits for nobody. Each entry that the seat has then seen
+    /// may be made by the number that it bears.
     pub fn glance(&self, seat: &mut Seat<S>) -> u64
         requires lock { seat.old.lock ≡ self.now }
         ensures length { result ≡ length seat.new.seen }
         ensures seen { GoesOn seat.old.held seat.old.seen seat.new.seen }
+        ensures made { AllMade S.may_make seat.new.seen }
         ensures kept { seat.new ≡ record seat.old { seen = seat.new.seen } }
     {
         self.table.shared.load::<Glance>(&mut seat.place, LENGTH)

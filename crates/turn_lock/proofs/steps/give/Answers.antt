@@ -1,5 +1,5 @@
 use Rattle.std.proofs.Common.{arith, subst, sym, ◌≡◌, true}
-use Rattle.turn_lock.specs.Numbers.{has}
+use Rattle.lane_spec.specs.Numbers.{has}
 use Rattle.turn_lock.proofs.Kept.{splits}
 use Rattle.turn_lock.proofs.steps.give.Goals as goal
 

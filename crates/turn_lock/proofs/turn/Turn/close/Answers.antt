@@ -1,5 +1,5 @@
 use Rattle.std.proofs.Common.{refl, sym, ap, ◌∙◌, subst}
-use Rattle.turn_lock.specs.Numbers.{HasAll}
+use Rattle.lane_spec.specs.Numbers.{HasAll}
 use Rattle.turn_lock.proofs.Shown.{present-is, stands_as}
 use Rattle.turn_lock.proofs.Kept.{ends}
 use Rattle.turn_lock.proofs.turn.Turn.close.Goals as goal

@@ -1,8 +1,8 @@
--- The numbers that a seat holds: a list, or all but a list.
+-- Sets of numbers: a list, or all but a list.
 use Rattle.std.specs.Prelude.{◌≡◌, ℕ, Bool, true, not, ◌==◌, List, ◌∷◌, ◌++◌, filter}
 use Rattle.std.specs.List.{list_any}
-use Rattle.turn_lock.specs.declared.known.Numbers.{Numbers}
-use Rattle.turn_lock.specs.declared.known.Numbers.TheVariants.{Only, AllBut}
+use Rattle.lane_spec.specs.declared.Numbers.{Numbers}
+use Rattle.lane_spec.specs.declared.Numbers.TheVariants.{Only, AllBut}
 
 -- whether the list has the number
 abbrev pub lists : List ℕ → ℕ → Bool

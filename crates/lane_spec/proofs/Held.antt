@@ -4,9 +4,9 @@ use Rattle.std.proofs.lemmas.List.Folds.{list_any-append}
 use Rattle.std.proofs.lemmas.Map.Views.{any-filter_same}
 use Rattle.std.proofs.lemmas.Bool.Decides.{nat_tests}
 use Rattle.std.proofs.Common.{arith}
-use Rattle.turn_lock.specs.declared.known.Numbers.{Numbers}
-use Rattle.turn_lock.specs.declared.known.Numbers.TheVariants.{Only, AllBut}
-use Rattle.turn_lock.specs.Numbers.{lists, has, without, together}
+use Rattle.lane_spec.specs.declared.Numbers.{Numbers}
+use Rattle.lane_spec.specs.declared.Numbers.TheVariants.{Only, AllBut}
+use Rattle.lane_spec.specs.Numbers.{lists, has, without, together}
 
 lists-filter : (p : ℕ → Bool) (ns : List ℕ) (n : ℕ) → lists (filter p ns) n ≡ p n && lists ns n
 lists-filter p ns n = any-filter_same (λ k. k == n) p (p n) (λ k e. ap p (eqb-true k n e)) ns
