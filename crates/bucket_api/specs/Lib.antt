@@ -7,4 +7,5 @@ pub mod Metadata
 pub mod Names
 pub mod Operation
 pub mod PageData
+pub mod Passes
 pub mod Pages

@@ -2,6 +2,7 @@
 #![tactic(auto)]
 
 mod answers;
+mod bucket;
 mod events;
 mod names;
 mod objects;
@@ -11,6 +12,7 @@ mod pages;
 mod tests;
 
 pub use answers::Answer;
+pub use bucket::Bucket;
 pub use events::{Event, Mode};
 pub use names::allowed;
 pub use objects::{Meta, Object, Pair, copy_pairs};
