@@ -8,4 +8,5 @@ pub mod Names
 pub mod Operation
 pub mod PageData
 pub mod Passes
+pub mod Scripts
 pub mod Pages

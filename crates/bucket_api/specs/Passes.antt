@@ -1,5 +1,5 @@
 -- What a bucket that many share tells, and each pass to it.
-use Rattle.std.specs.Prelude.{◌≡◌, ℕ, ◌+◌, ◌-◌, ◌^◌, ◌≤◌, List, [], ◌∷◌, ◌++◌, length, All, Option, Some, min}
+use Rattle.std.specs.Prelude.{◌≡◌, ℕ, ◌+◌, ◌-◌, ◌^◌, List, [], ◌∷◌, ◌++◌, length, All, Some, min}
 use Rattle.io_ports.specs.Faults.{Rose}
 use Rattle.lane_spec.specs.declared.Numbers.{Numbers}
 use Rattle.lane_spec.specs.declared.Numbers.TheVariants.{Only, AllBut}

@@ -13,6 +13,15 @@ pub enum Mode {
     Lost,
 }
 
+/// A fault that is to come.
+#[derive(Debug, Clone, Copy, PartialEq, Eq)]
+pub struct Scripted {
+    /// The moment of the operation that it befalls. Moments count from 1.
+    pub moment: u64,
+    /// What becomes of that operation.
+    pub mode: Mode,
+}
+
 /// One operation that was made. The first event of a log stands at moment 1.
 #[derive(Drop)]
 pub struct Event {

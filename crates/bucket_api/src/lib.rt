@@ -13,7 +13,7 @@ mod tests;
 
 pub use answers::Answer;
 pub use bucket::Bucket;
-pub use events::{Event, Mode};
+pub use events::{Event, Mode, Scripted};
 pub use names::allowed;
 pub use objects::{Meta, Object, Pair, copy_pairs};
 pub use operations::Op;

@@ -1,0 +1,3 @@
+pub mod KeepingLaws
+pub mod PassLaws
+pub mod ScriptLaws

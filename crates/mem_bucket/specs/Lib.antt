@@ -1,0 +1,3 @@
+pub mod BucketLog
+pub mod Keeping
+pub mod MemPasses
