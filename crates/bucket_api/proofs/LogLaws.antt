@@ -1,15 +1,19 @@
 -- Laws of the log: what one more event adds to it, and that what stands in it stays as the log grows.
-use Rattle.std.proofs.Common.{◌≡◌, ℕ, zero, suc, ◌+◌, ◌-◌, ◌<◌, ◌≤◌, List, [], ◌∷◌, ◌++◌, take, length, fold, All, Some, refl, sym, ap, ◌∙◌, arith, length-append}
-use Rattle.std.specs.Prelude.{slice_get, option_map, IfSome}
+use Rattle.std.proofs.Common.{Option, None, ◌≡◌, ◌≢◌, Bool, true, false, cond, drop, ℕ, zero, suc, ◌+◌, ◌-◌, ◌<◌, ◌≤◌, List, [], ◌∷◌, ◌++◌, take, length, fold, All, Some, refl, sym, ap, ◌∙◌, arith, length-append}
+use Rattle.std.specs.Prelude.{slice_get, option_map, IfSome, ◌↔◌, if◌then◌else◌}
+use Rattle.std.specs.Option.{option_map_or}
 use Rattle.std.proofs.Math.Seq.{take-length}
 use Rattle.std.proofs.lemmas.List.{take-append-le}
 use Rattle.std.proofs.lemmas.List.Sums.{fold-append}
 use Rattle.std.proofs.lemmas.List.Elements.{All-head, All-tail}
 use Rattle.bucket_api.specs.declared.events.Mode.{Mode}
 use Rattle.bucket_api.specs.declared.events.Mode.TheVariants.{Done, Failed, Lost}
+use Rattle.bucket_api.specs.declared.answers.Answer.{Answer}
+use Rattle.bucket_api.specs.declared.answers.Answer.TheVariants.{Meta, Bytes, NotFound, Fault, Done as Deleted}
 use Rattle.bucket_api.specs.LogEvent.{LogEvent}
-use Rattle.bucket_api.specs.Operation.{Operation, IsAllowed}
-use Rattle.bucket_api.specs.BucketState.{BucketState, IsBucket, IsWithin}
+use Rattle.bucket_api.specs.Operation.{Operation, stat, read, insert, update, delete, copy, list, IsAllowed}
+use Rattle.bucket_api.specs.BucketState.{BucketState, object_at, object_of, generation_at, IsBucket, IsWithin}
+use Rattle.bucket_api.specs.BucketStep.{holds, refused, new_object, updated_object, may_update, answer_to}
 use Rattle.bucket_api.specs.Log.{state_by, answer_by, event_at, state_at, answer_at, scripted_mode, FollowsScript}
 use Rattle.bucket_api.proofs.BucketLaws.{IsBucket-state_after}
 use Rattle.bucket_api.proofs.RoomLaws.{IsWithin-more, IsWithin-state_after}
@@ -25,6 +29,33 @@ pub IsWithin-state_by : (mode : Mode) (op : Operation) (most : ℕ) (b : BucketS
 IsWithin-state_by Done op most b is within = IsWithin-state_after op most b is within
 IsWithin-state_by Failed op most b is within = IsWithin-more most (most + 1) b (omega arith) within
 IsWithin-state_by Lost op most b is within = IsWithin-state_after op most b is within
+
+never_found : {X : Type 0} (f : X → Answer) (absent : Answer) (found : Option X) → ((x : X) → f x ≡ Fault → ⊥) → (absent ≡ Fault → ⊥) → option_map_or f found absent ≡ Fault → ⊥
+never_found f absent None some nothing = nothing
+never_found f absent (Some x) some nothing = some x
+
+never_either : (t : Bool) (a b : Answer) → (a ≡ Fault → ⊥) → (b ≡ Fault → ⊥) → cond t a b ≡ Fault → ⊥
+never_either true a b first second = first
+never_either false a b first second = second
+
+-- what the operation answers is never a fault
+pub never_fault : (op : Operation) (b : BucketState) → answer_to op b ≡ Fault → ⊥
+never_fault (stat name) b = never_found (λ o. Meta o.meta) NotFound (object_at b name) (λ o e. cc) (λ e. cc)
+never_fault (read name generation first count) b = never_found (λ o. Bytes (take count (drop first o.content))) NotFound (object_of b name generation) (λ o e. cc) (λ e. cc)
+never_fault (insert name content pairs only stamp) b = never_either (holds only (generation_at b name)) _ _ (λ e. cc) (λ e. cc)
+never_fault (update name pairs only only_meta stamp) b =
+    never_found (λ o. if may_update only only_meta o then Meta (updated_object pairs stamp o).meta else refused b name) NotFound (object_at b name)
+    (λ o. never_either (may_update only only_meta o) (Meta (updated_object pairs stamp o).meta) (refused b name) (λ e. cc) (λ e. cc)) (λ e. cc)
+never_fault (delete name only) b =
+    never_found (λ o. if holds only o.meta.generation then Deleted else refused b name) NotFound (object_at b name) (λ o. never_either (holds only o.meta.generation) Deleted (refused b name) (λ e. cc) (λ e. cc)) (λ e. cc)
+never_fault (copy from generation to stamp) b = never_found (λ o. Meta (new_object b to o.content o.meta.pairs stamp).meta) NotFound (object_of b from generation) (λ o e. cc) (λ e. cc)
+never_fault (list prefix slash max after) b = λ e. cc
+
+-- a fault comes exactly in the other modes
+pub fault_by : (mode : Mode) (op : Operation) (b : BucketState) → (answer_by mode op b ≡ Fault) ↔ (mode ≢ Done)
+fault_by Done op b = (λ e. absurd (never_fault op b e), λ ne. absurd (ne refl))
+fault_by Failed op b = (λ e. λ d. cc, λ ne. refl)
+fault_by Lost op b = (λ e. λ d. cc, λ ne. refl)
 
 -- ---- lists
 

@@ -1,5 +1,5 @@
 -- What a pass tells, from what its seat knows.
-use Rattle.std.proofs.Common.{◌≡◌, ℕ, Bool, false, true, cond, nat_lt, List, [], ◌∷◌, ◌++◌, length, Some, sym, ap, ◌∙◌, subst}
+use Rattle.std.proofs.Common.{◌≡◌, ℕ, ◌+◌, Bool, false, true, cond, nat_lt, List, [], ◌∷◌, ◌++◌, length, Some, sym, ap, ◌∙◌, subst, length-append}
 use Rattle.std.proofs.lemmas.List.Elements.{All-map, All-weaker}
 use Rattle.lane_spec.specs.declared.Numbers.{Numbers}
 use Rattle.lane_spec.specs.Going.{longer}
@@ -14,8 +14,9 @@ use Rattle.bucket_api.specs.LogEvent.{LogEvent}
 use Rattle.bucket_api.specs.Operation.{Operation, IsAllowed}
 use Rattle.bucket_api.specs.BucketState.{IsBucket}
 use Rattle.bucket_api.specs.Log.{answer_at, answer_by, state_at, FollowsScript}
+use Rattle.bucket_api.specs.Scripts.{FaultsByScript}
 use Rattle.bucket_api.specs.Passes.{Origin, PassState, LogGoesOn, SeesMore, IsSound, Counts, Acts}
-use Rattle.bucket_api.proofs.LogLaws.{answer_at-pushed}
+use Rattle.bucket_api.proofs.LogLaws.{answer_at-pushed, fault_by}
 use Rattle.mem_bucket.specs.BucketLog.{BucketLog, home_of, MayMake}
 use Rattle.mem_bucket.specs.Keeping.{Makes, next_event}
 use Rattle.mem_bucket.specs.MemPasses.{origin_of, pass_of, IsSeated}
@@ -156,3 +157,10 @@ module _ {first before after : BucketLog} {old inside wrote left : Place} {lane 
 
   pub follows : FollowsScript first.script (entries_of left.seen)
   follows = subst (λ (x : List (ℕ × Mode) × List LogEvent). FollowsScript x.0 x.1) (λ k. ((ap (λ h. h.1) (ap home_of t.made.log ∙ t.stood.at_home)) k, (sym whole) k)) t.made.follows
+
+  pub faults_by_script : FaultsByScript first.script moment answer
+  faults_by_script =
+      let script : before.script ≡ first.script = ap (λ h. h.1) t.stood.at_home in
+      let at : length before.log + 1 ≡ moment = sym (t.made.place ∙ (ap length added_to ∙ length-append before.log (event ∷ []))) in
+      let by_mode : FaultsByScript before.script (length before.log + 1) (answer_by event.mode op (state_at before.start before.log (length before.log))) = fault_by event.mode op (state_at before.start before.log (length before.log)) in
+      subst (λ (x : List (ℕ × Mode) × ℕ × Answer). FaultsByScript x.0 x.1 x.2) (λ k. (script k, at k, (sym t.made.answered) k)) by_mode

@@ -6,7 +6,7 @@ ghost use Rattle.turn_lock.specs.Seats.{Lock};
 ghost use Rattle.bucket_api.specs.Operation.{operation, IsAllowed};
 ghost use Rattle.bucket_api.specs.BucketState.{IsWithin};
 ghost use Rattle.bucket_api.specs.Log.{state_at, FollowsScript};
-ghost use Rattle.bucket_api.specs.Scripts.{script_of, IsScript};
+ghost use Rattle.bucket_api.specs.Scripts.{script_of, IsScript, FaultsByScript};
 ghost use Rattle.bucket_api.specs.Passes.{LogGoesOn, SeesMore, IsSound, Acts, Counts, first_pass, split_pass, both_faults};
 ghost use Rattle.mem_bucket.specs.BucketLog.{BucketLog};
 ghost use Rattle.mem_bucket.specs.MemPasses.{origin_of};
@@ -110,6 +110,7 @@ impl Bucket for MemBucket {
         ensures faults { pass.old.faults ≤ pass.new.faults }
         ensures sound { IsSound pass.new }
         ensures script { OnOk result (FollowsScript self.now.first.script pass.new.seen) }
+        ensures scripted { IfOk result (λ r. FaultsByScript self.now.first.script r.0 r.1) }
     {
         let lane = pass.lane;
         let op = op.copy(alloc)?;

@@ -2,10 +2,11 @@ use Rattle.std.proofs.Common.{◌≡◌, refl, sym, ap, subst}
 use Rattle.turn_lock.specs.Book.{AllMade, GoesOn, entries_of}
 use Rattle.bucket_api.specs.Operation.{operation, IsAllowed}
 use Rattle.bucket_api.specs.Log.{FollowsScript}
+use Rattle.bucket_api.specs.Scripts.{FaultsByScript}
 use Rattle.bucket_api.specs.Passes.{SeesMore, IsSound, Acts}
 use Rattle.mem_bucket.specs.BucketLog.{MayMake}
 use Rattle.mem_bucket.specs.MemPasses.{pass_of}
-use Rattle.mem_bucket.proofs.PassLaws.{IsTurn, sound, sees_more, came_back, still_seated, same_first, stands, seated_after, acted, follows}
+use Rattle.mem_bucket.proofs.PassLaws.{IsTurn, sound, sees_more, came_back, still_seated, same_first, stands, seated_after, acted, follows, faults_by_script}
 use Rattle.mem_bucket.proofs.mem_bucket.MemBucketBucket.act.Goals as goal
 
 pub returns-in_err-op-clause-sound : goal.returns-in_err-op-clause-sound
@@ -76,3 +77,6 @@ returns-clause-sound g c = sound c.leave-2.new.seat c.pass.inside.lane c.count-p
 
 pub returns-clause-script : goal.returns-clause-script
 returns-clause-script g c = subst (λ b. FollowsScript b.first.script (entries_of c.leave-2.new.seat.seen)) c.self.view_is (follows (turn g c))
+
+pub returns-clause-scripted : goal.returns-clause-scripted
+returns-clause-scripted g c = subst (λ b. FaultsByScript b.first.script c.in-Ok.moment c.in-Ok.answer) c.self.view_is (faults_by_script (turn g c))
