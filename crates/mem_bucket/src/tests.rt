@@ -1,4 +1,4 @@
-ghost use Rattle.std.specs.Prelude.{◌≡◌, ◌≢◌, ◌≤◌, ◌<◌, ◌^◌, ◌-◌, [], IsTrue, IfOk};
+ghost use Rattle.std.specs.Prelude.{◌≡◌, ◌≢◌, ◌<◌, ◌^◌, ◌-◌, ℕ, All, length, slice_index_or, IsTrue, IfOk};
 ghost use Rattle.lane_spec.specs.Numbers.{has};
 ghost use Rattle.bucket_api.specs.declared.events.Mode.TheVariants.{Done};
 ghost use Rattle.bucket_api.specs.Metadata.{KeysRise};
@@ -17,6 +17,8 @@ use std::alloc::Global;
 use std::process::Abort;
 use std::sync::Wait;
 use std::test::Fail;
+use std::thread;
+use std::thread::Threads;
 
 /// The name of the one object.
 fn object_name<R: Abort + AllocGlobal>(rt: &R) -> Result<Text, NoMemory>
@@ -205,6 +207,119 @@ fn lost_insert<R: Abort + AllocGlobal + Wait>(rt: &R) -> Result<(Plain, Row<Even
     look(rt, &bucket, &mut home, (3, Short::Meta(2, 1)))?;
     assert_eq!(rt; bucket.glance(&mut home), 3);
     Ok(bucket.finish(home))
+}
+
+/// How many operations each of the four lanes makes.
+const OPERATIONS: u64 = 1000;
+
+/// A pass with what it was answered, in order, and whether there was memory for all.
+#[derive(Drop)]
+struct Worked {
+    pass: MemPass,
+    answers: Vec<(u64, Short)>,
+    whole: bool,
+}
+
+/// The lane's operation of this number, which it carries as its stamp: an insert, and then an update.
+fn numbered<R: Abort + AllocGlobal>(rt: &R, number: u64) -> Result<Op, NoMemory>
+    ensures { IfOk result (λ op. IsAllowed (operation op)) }
+{
+    if number.is_multiple_of(2) {
+        return insert(rt, None, number);
+    }
+    let name = object_name(rt)?;
+    Ok(Op::Update {
+        name,
+        pairs: no_pairs(rt.alloc()),
+        only: None,
+        only_meta: None,
+        stamp: number,
+    })
+}
+
+/// The number of an operation that `numbered` made.
+fn number_of(op: &Op) -> u64 {
+    match op {
+        Op::Insert { stamp, .. } => *stamp,
+        Op::Update { stamp, .. } => *stamp,
+        _ => u64::MAX,
+    }
+}
+
+/// Makes the operation, and notes what it was answered.
+fn note<B: Bucket, R: AllocGlobal + Wait>(
+    rt: &R,
+    bucket: &B,
+    pass: &mut B::Pass,
+    op: &Op,
+    answers: &mut Vec<(u64, Short)>,
+) -> Result<(), NoMemory>
+    requires pass { (B.told pass.old).origin ≡ B.origin bucket.now }
+    requires own { IsTrue (has (B.told pass.old).held (B.told pass.old).lane) }
+    requires may { IsAllowed (operation op.now) }
+    ensures kept { B.told pass.new ≡ record (B.told pass.old) { seen = (B.told pass.new).seen; mine = (B.told pass.new).mine; faults = (B.told pass.new).faults } }
+{
+    let (moment, answer) = bucket.act(rt, rt.alloc(), pass, op)?;
+    answers.push((moment, in_short(&answer)))?;
+    Ok(())
+}
+
+/// Makes the operation of this number, and notes what it was answered.
+fn note_numbered<B: Bucket, R: Abort + AllocGlobal + Wait>(
+    rt: &R,
+    bucket: &B,
+    pass: &mut B::Pass,
+    number: u64,
+    answers: &mut Vec<(u64, Short)>,
+) -> Result<(), NoMemory>
+    requires pass { (B.told pass.old).origin ≡ B.origin bucket.now }
+    requires own { IsTrue (has (B.told pass.old).held (B.told pass.old).lane) }
+    ensures kept { B.told pass.new ≡ record (B.told pass.old) { seen = (B.told pass.new).seen; mine = (B.told pass.new).mine; faults = (B.told pass.new).faults } }
+{
+    let op = numbered(rt, number)?;
+    note(rt, bucket, pass, &op, answers)
+}
+
+/// Makes all operations of a lane.
+fn work<R: Abort + AllocGlobal + Wait>(rt: &R, bucket: &MemBucket, pass: MemPass) -> Worked
+    requires pass { pass.origin ≡ origin_of bucket.now }
+    requires own { IsTrue (has pass.held pass.lane) }
+    ensures kept { result.pass ≡ record pass { seen = result.pass.seen; mine = result.pass.mine; faults = result.pass.faults } }
+{
+    let mut pass = pass;
+    let mut answers = Vec::new(rt.alloc());
+    let mut whole = true;
+    for number in 0..OPERATIONS {
+        let noted = note_numbered(rt, bucket, &mut pass, number, &mut answers);
+        whole = whole && noted.is_ok();
+    }
+    Worked {
+        pass,
+        answers,
+        whole,
+    }
+}
+
+/// Makes all operations of each lane, each lane in a thread.
+fn work_at_once<R: Abort + AllocGlobal + Threads + Wait + Sync>(
+    rt: &R,
+    bucket: &MemBucket,
+    passes: Vec<MemPass>,
+) -> Result<Vec<Worked>, NoMemory>
+    requires passes { All (λ p. (p.origin ≡ origin_of bucket.now) × IsTrue (has p.held p.lane)) passes.items }
+    ensures origins { IfOk result (λ works. All (λ w. w.pass.origin ≡ origin_of bucket.now) works.items) }
+    ensures len { IfOk result (λ works. length works.items ≡ length passes.items) }
+    ensures held { IfOk result (λ works. (i : ℕ) (w : _) (p : _) → i < length passes.items → (slice_index_or works.items i w).pass.held ≡ (slice_index_or passes.items i p).held) }
+{
+    let works = thread::map_vec(
+        rt,
+        passes,
+        &|pass: MemPass| -> Worked
+            requires { (pass.origin ≡ origin_of bucket.now) × IsTrue (has pass.held pass.lane) }
+            ensures { result.pass ≡ record pass { seen = result.pass.seen; mine = result.pass.mine; faults = result.pass.faults } }
+        { work(rt, bucket, pass) },
+    )?;
+    Ok(works)
 }
 
 #[test]

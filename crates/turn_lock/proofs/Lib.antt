@@ -2,3 +2,4 @@ pub mod Views
 pub mod Kept
 pub mod Shown
 pub mod Standing
+pub mod Sent
