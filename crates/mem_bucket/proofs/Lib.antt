@@ -1,3 +1,4 @@
+pub mod Gathering
 pub mod KeepingLaws
 pub mod PassLaws
 pub mod ScriptLaws

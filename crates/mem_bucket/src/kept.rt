@@ -16,18 +16,19 @@ use std::marker::Model;
 use std::snapshot::Snapshot;
 use turn_lock::Booked;
 
-// The most events of a log: one less than a book has room for.
+/// The most events of a log: one less than a book has room for.
 const MOST_EVENTS: u64 = (1 << 63) - 1;
 
-/// A bucket with its log and the script of its faults. It stands for the log, and its home is the bucket before the log,
-/// with the script.
+/// What the lock keeps: a bucket with its log and the script of its faults. It stands for the log, and its home is the
+/// bucket before the log, with the script.
 #[derive(Drop)]
 pub struct Kept {
     bucket: Plain,
     log: Row<Event>,
     script: Row<Scripted>,
-    // How much of the script is behind: its first moments, up to the last event's.
+    /// How much of the script is behind: its first moments, up to the last event's.
     behind: usize,
+    /// The bucket before the log, which has no bytes.
     start: Snapshot<Plain>,
 }
 
@@ -63,7 +64,7 @@ impl Booked for Kept {
 }
 
 impl Kept {
-    // A bucket with an empty log.
+    /// A bucket with an empty log.
     pub(crate) fn new(alloc: Global, start: Plain, script: Row<Scripted>) -> Kept
         requires script { IsScript (script_of script.items) }
         requires small { IsWithin (2 ^ 62 - 1) start }
@@ -80,10 +81,10 @@ impl Kept {
         }
     }
 
-    // Makes the operation, as the log's next event. After `NoMemory` nothing has changed.
-    //
-    // All of this is done under the lock. Room in the log can only be made here, since others fill it. The answer is a
-    // copy of what the bucket holds at this moment, so it is made here too.
+    /// Makes the operation, as the log's next event. After `NoMemory` nothing has changed.
+    ///
+    /// All of this is done under the lock. Room in the log can only be made here, since others fill it. The answer is a
+    /// copy of what the bucket holds at this moment, so it is made here too.
     pub(crate) fn make(
         &mut self,
         alloc: Global,
@@ -106,7 +107,7 @@ impl Kept {
         Ok((events + 1, answer))
     }
 
-    // The bucket after its log, and the log.
+    /// The bucket after its log, and the log.
     pub(crate) fn into_parts(self) -> (Plain, Row<Event>)
         ensures bucket { result.0 ≡ state_at self.start self.log (length self.log) }
         ensures log { result.1.items ≡ self.log }
@@ -123,7 +124,7 @@ impl Kept {
     }
 }
 
-// Makes an operation in a mode: one that fails has no effect, and one whose answer is lost has its whole effect.
+/// Makes an operation in a mode: one that fails has no effect, and one whose answer is lost has its whole effect.
 fn apply_by(bucket: &mut Plain, alloc: Global, mode: Mode, op: &Op) -> Result<Answer, NoMemory>
     requires room { HasRoom bucket.old }
     requires may { IsAllowed (operation op.now) }

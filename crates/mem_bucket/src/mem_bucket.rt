@@ -94,6 +94,8 @@ impl Bucket for MemBucket {
 
     ghost told = { λ p. p };
 
+    // The copy of the operation that the log keeps is made before the lock is entered, and the count of faults is set
+    // once it is left.
     fn act<T: Wait>(
         &self,
         rt: &T,
@@ -148,7 +150,7 @@ impl Bucket for MemBucket {
     }
 }
 
-// The count of faults after an answer.
+/// The count of faults after an answer.
 fn count(faults: u64, answer: &Answer) -> u64
     ensures counted { Counts answer.now faults result }
     ensures kept { faults ≤ result }

@@ -6,7 +6,7 @@ ghost use Rattle.mem_bucket.specs.Keeping.{IsAhead};
 
 use bucket_api::{Mode, Scripted};
 
-// The mode of the next event, and how much of the script is then behind.
+/// The mode of the next event, and how much of the script is then behind.
 pub(crate) fn next_mode(script: &[Scripted], behind: usize, events: u64) -> (Mode, usize)
     requires ahead { IsAhead events (script_of script.now) (drop behind (script_of script.now)) }
     requires few { events < 2 ^ 63 }

@@ -1,5 +1,5 @@
-ghost use Rattle.std.specs.Prelude.{◌≡◌, ◌≢◌, ◌<◌, ◌^◌, ◌-◌, ℕ, All, length, slice_index_or, IsTrue, IfOk};
-ghost use Rattle.lane_spec.specs.Numbers.{has};
+ghost use Rattle.std.specs.Prelude.{◌≡◌, ◌≢◌, ◌<◌, ◌^◌, ◌-◌, ℕ, All, fold, length, slice_index_or, IsTrue, IfOk};
+ghost use Rattle.lane_spec.specs.Numbers.{has, HasAll, together};
 ghost use Rattle.bucket_api.specs.declared.events.Mode.TheVariants.{Done};
 ghost use Rattle.bucket_api.specs.Metadata.{KeysRise};
 ghost use Rattle.bucket_api.specs.Names.{IsObjectName};
@@ -9,6 +9,7 @@ ghost use Rattle.bucket_api.specs.Scripts.{script_of, IsScript};
 ghost use Rattle.bucket_api.specs.Passes.{first_pass};
 ghost use Rattle.mem_bucket.specs.MemPasses.{origin_of};
 
+use crate::kept::Kept;
 use crate::{MemBucket, MemPass};
 use bucket_api::{Answer, Bucket, Event, Mode, Op, Pair, Scripted, allowed};
 use bucket_plain::Plain;
@@ -28,12 +29,14 @@ fn object_name<R: Abort + AllocGlobal>(rt: &R) -> Result<Text, NoMemory>
     Text::of(rt.alloc(), "f")
 }
 
+/// No custom metadata.
 fn no_pairs(alloc: Global) -> Row<Pair>
     ensures { KeysRise result.items }
 {
     Row::new(alloc)
 }
 
+/// Asks what is told of the one object.
 fn stat<R: Abort + AllocGlobal>(rt: &R) -> Result<Op, NoMemory>
     ensures { IfOk result (λ op. IsAllowed (operation op)) }
 {
@@ -41,6 +44,7 @@ fn stat<R: Abort + AllocGlobal>(rt: &R) -> Result<Op, NoMemory>
     Ok(Op::Stat { name })
 }
 
+/// Inserts the one object.
 fn insert<R: Abort + AllocGlobal>(rt: &R, only: Option<u64>, stamp: u64) -> Result<Op, NoMemory>
     ensures { IfOk result (λ op. IsAllowed (operation op)) }
 {
@@ -101,6 +105,7 @@ enum Short {
     Other,
 }
 
+/// The answer in short.
 fn in_short(answer: &Answer) -> Short {
     match answer {
         Answer::Meta(meta) => Short::Meta(meta.generation, meta.metageneration),
@@ -212,12 +217,11 @@ fn lost_insert<R: Abort + AllocGlobal + Wait>(rt: &R) -> Result<(Plain, Row<Even
 /// How many operations each of the four lanes makes.
 const OPERATIONS: u64 = 1000;
 
-/// A pass with what it was answered, in order, and whether there was memory for all.
+/// A pass with what it was answered, in order.
 #[derive(Drop)]
 struct Worked {
     pass: MemPass,
     answers: Vec<(u64, Short)>,
-    whole: bool,
 }
 
 /// The lane's operation of this number, which it carries as its stamp: an insert, and then an update.
@@ -280,7 +284,7 @@ fn note_numbered<B: Bucket, R: Abort + AllocGlobal + Wait>(
     note(rt, bucket, pass, &op, answers)
 }
 
-/// Makes all operations of a lane.
+/// Makes all operations of a lane. One for which there is no memory has no answer.
 fn work<R: Abort + AllocGlobal + Wait>(rt: &R, bucket: &MemBucket, pass: MemPass) -> Worked
     requires pass { pass.origin ≡ origin_of bucket.now }
     requires own { IsTrue (has pass.held pass.lane) }
@@ -288,16 +292,10 @@ fn work<R: Abort + AllocGlobal + Wait>(rt: &R, bucket: &MemBucket, pass: MemPass
 {
     let mut pass = pass;
     let mut answers = Vec::new(rt.alloc());
-    let mut whole = true;
     for number in 0..OPERATIONS {
-        let noted = note_numbered(rt, bucket, &mut pass, number, &mut answers);
-        whole = whole && noted.is_ok();
+        let _ = note_numbered(rt, bucket, &mut pass, number, &mut answers);
     }
-    Worked {
-        pass,
-        answers,
-        whole,
-    }
+    Worked { pass, answers }
 }
 
 /// Makes all operations of each lane, each lane in a thread.
@@ -320,6 +318,134 @@ fn work_at_once<R: Abort + AllocGlobal + Threads + Wait + Sync>(
         { work(rt, bucket, pass) },
     )?;
     Ok(works)
+}
+
+/// Passes for the lanes 1 to 4, which hold all lanes together with the home.
+fn four_passes(
+    alloc: Global,
+    bucket: &MemBucket,
+    home: &mut MemPass,
+) -> Result<Vec<MemPass>, NoMemory>
+    requires home { home.old ≡ first_pass (origin_of bucket.now) }
+    ensures origin { home.new.origin ≡ origin_of bucket.now }
+    ensures passes { IfOk result (λ passes. All (λ p. (p.origin ≡ origin_of bucket.now) × IsTrue (has p.held p.lane)) passes.items) }
+    ensures all { IfOk result (λ passes. HasAll (fold (λ held p. together held p.held) home.new.held passes.items)) }
+{
+    let one = bucket.split(home, 1);
+    let two = bucket.split(home, 2);
+    let three = bucket.split(home, 3);
+    let four = bucket.split(home, 4);
+    Ok(vec![in alloc; one, two, three, four]?)
+}
+
+/// The home that has met all passes, and what each was answered.
+fn gathered(
+    alloc: Global,
+    bucket: &MemBucket,
+    home: MemPass,
+    works: Vec<Worked>,
+) -> Result<(MemPass, Vec<Vec<(u64, Short)>>), NoMemory>
+    requires home { home.origin ≡ origin_of bucket.now }
+    requires works { All (λ w. w.pass.origin ≡ origin_of bucket.now) works.items }
+    ensures origin { IfOk result (λ r. r.0.origin ≡ origin_of bucket.now) }
+    ensures held { IfOk result (λ r. r.0.held ≡ fold (λ held w. together held w.pass.held) home.held works.items) }
+{
+    let mut home = home;
+    let mut answers = Vec::new(alloc);
+    for work in works {
+        let Worked {
+            pass,
+            answers: told,
+        } = work;
+        bucket.meet(&mut home, pass);
+        answers.push(told)?;
+    }
+    Ok((home, answers))
+}
+
+/// The bucket and its log at the end.
+fn ended(bucket: MemBucket, home: MemPass) -> (Plain, Row<Event>)
+    requires home { home.origin ≡ origin_of bucket }
+    requires all { HasAll home.held }
+    ensures asked { All (λ e. IsAllowed e.op) result.1.items }
+{
+    let mut home = home;
+    bucket.glance(&mut home);
+    bucket.finish(home)
+}
+
+/// The log of four lanes at once, and what each lane was answered.
+fn four_lanes<R: Abort + AllocGlobal + Threads + Wait + Sync>(
+    rt: &R,
+) -> Result<(Row<Event>, Vec<Vec<(u64, Short)>>), NoMemory>
+    ensures asked { IfOk result (λ r. All (λ e. IsAllowed e.op) r.0.items) }
+{
+    let (bucket, mut home) = opened(rt, 2000, Mode::Lost)?;
+    let passes = four_passes(rt.alloc(), &bucket, &mut home)?;
+    let works = work_at_once(rt, &bucket, passes)?;
+    let (home, answers) = gathered(rt.alloc(), &bucket, home, works)?;
+    let (_, log) = ended(bucket, home);
+    Ok((log, answers))
+}
+
+/// The moment and the answer of an event, where one thread makes it behind those before it.
+fn replayed<R: AllocGlobal>(
+    rt: &R,
+    kept: &mut Kept,
+    event: &Event,
+) -> Result<(u64, Short), NoMemory>
+    requires may { IsAllowed event.now.op }
+{
+    let op = event.op.copy(rt.alloc())?;
+    let (moment, answer) = kept.make(rt.alloc(), event.lane, op)?;
+    Ok((moment, in_short(&answer)))
+}
+
+/// The event is the next one of its lane, which was told this of it.
+fn is_next(
+    event: &Event,
+    told: (u64, Short),
+    made: &mut [usize; 4],
+    answers: &[Vec<(u64, Short)>],
+) -> bool {
+    let lane = (event.lane as usize).wrapping_sub(1);
+    let (Some(number), Some(answers)) = (made.get_mut(lane), answers.get(lane)) else {
+        return false;
+    };
+    let is_next = number_of(&event.op) == *number as u64;
+    let is_told = answers.get(*number) == Some(&told);
+    *number = number.saturating_add(1);
+    is_next && is_told
+}
+
+/// The log has all operations of each lane in order, and one thread that makes them in the log's order is answered the
+/// same.
+fn is_explained<R: Abort + AllocGlobal>(
+    rt: &R,
+    log: &[Event],
+    answers: &[Vec<(u64, Short)>],
+) -> Result<bool, NoMemory>
+    requires asked { All (λ e. IsAllowed e.op) log.now }
+{
+    let start = one_object(rt)?;
+    let script = one_fault(rt.alloc(), 2000, Mode::Lost)?;
+    let mut kept = Kept::new(rt.alloc(), start, script);
+    let mut made = [0; 4];
+    for event in log {
+        let told = replayed(rt, &mut kept, event)?;
+        if !is_next(event, told, &mut made, answers) {
+            return Ok(false);
+        }
+    }
+    Ok(made == [OPERATIONS as usize; 4])
+}
+
+#[test]
+fn the_log_of_four_threads_explains_each_answer(rt: HostRuntime) -> Result<(), Fail> {
+    let (log, answers) = four_lanes(&rt)?;
+    assert_eq!(rt; log.len(), 4 * OPERATIONS);
+    assert!(rt; is_explained(&rt, log.as_slice(), answers.as_slice())?);
+    Ok(())
 }
 
 #[test]
