@@ -1,5 +1,6 @@
-ghost use Rattle.std.specs.Prelude.{◌≡◌, ◌≢◌, ◌<◌, ◌^◌, ◌-◌, ℕ, All, fold, length, slice_index_or, IsTrue, IfOk};
-ghost use Rattle.lane_spec.specs.Numbers.{has, HasAll, together};
+ghost use Rattle.std.specs.Prelude.{◌≡◌, ◌≢◌, ◌<◌, ◌^◌, ◌-◌, ℕ, All, fold, length, slice_index_or, [], ◌∷◌, IsTrue, IfOk, OnOk};
+ghost use Rattle.lane_spec.specs.Numbers.{has, HasAll, without, together};
+ghost use Rattle.lane_spec.specs.declared.Numbers.TheVariants.{Only};
 ghost use Rattle.bucket_api.specs.declared.events.Mode.TheVariants.{Done};
 ghost use Rattle.bucket_api.specs.Metadata.{KeysRise};
 ghost use Rattle.bucket_api.specs.Names.{IsObjectName};
@@ -167,6 +168,25 @@ fn write<B: Bucket, R: Abort + AllocGlobal + Wait>(
     ask(rt, bucket, pass, &op, expected)
 }
 
+/// Asks for the object from a lane of its own, as `ask` does, and answers how many events the log then has.
+fn look_from<B: Bucket, R: Abort + AllocGlobal + Wait>(
+    rt: &R,
+    bucket: &B,
+    home: &mut B::Pass,
+    lane: u64,
+    expected: (u64, Short),
+) -> Result<u64, NoMemory>
+    requires home { (B.told home.old).origin ≡ B.origin bucket.now }
+    requires held { IsTrue (has (B.told home.old).held lane) }
+    ensures origin { (B.told home.new).origin ≡ (B.told home.old).origin }
+    ensures held { OnOk result ((B.told home.new).held ≡ together (without (B.told home.old).held lane) (Only (lane ∷ []))) }
+{
+    let mut pass = bucket.split(home, lane);
+    look(rt, bucket, &mut pass, expected)?;
+    bucket.meet(home, pass);
+    Ok(bucket.glance(home))
+}
+
 /// The log's events are of these lanes and have these modes.
 fn has_events(log: &[Event], expected: &[(u64, Mode)]) -> bool {
     let mut events = log.iter().zip(expected);
@@ -204,13 +224,13 @@ fn two_lanes<R: Abort + AllocGlobal + Wait>(rt: &R) -> Result<(Plain, Row<Event>
     Ok(bucket.finish(home))
 }
 
-/// The one lane inserts, and the answer is lost.
+/// The first lane inserts, the answer is lost, and another lane looks.
 fn lost_insert<R: Abort + AllocGlobal + Wait>(rt: &R) -> Result<(Plain, Row<Event>), NoMemory> {
     let (bucket, mut home) = opened(rt, 1, Mode::Lost)?;
     write(rt, &bucket, &mut home, (1, Short::Fault))?;
     write(rt, &bucket, &mut home, (2, Short::Precondition(2, 1)))?;
-    look(rt, &bucket, &mut home, (3, Short::Meta(2, 1)))?;
-    assert_eq!(rt; bucket.glance(&mut home), 3);
+    let events = look_from(rt, &bucket, &mut home, 5, (3, Short::Meta(2, 1)))?;
+    assert_eq!(rt; events, 3);
     Ok(bucket.finish(home))
 }
 
@@ -465,7 +485,7 @@ fn what_fails_has_no_effect(rt: HostRuntime) -> Result<(), Fail> {
 #[test]
 fn what_is_lost_has_its_whole_effect(rt: HostRuntime) -> Result<(), Fail> {
     let (bucket, log) = lost_insert(&rt)?;
-    let events = [(0, Mode::Lost), (0, Mode::Done), (0, Mode::Done)];
+    let events = [(0, Mode::Lost), (0, Mode::Done), (5, Mode::Done)];
     assert_eq!(rt; bucket.last(), 2);
     assert!(rt; has_events(log.as_slice(), &events));
     Ok(())
