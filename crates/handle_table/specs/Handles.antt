@@ -1,11 +1,11 @@
 -- What contracts see of a table of handles, and what each call makes of it. A handle is the number that OPEN and OPENDIR
 -- answer, `fh` of fuse.h; files and directories share the numbers.
-use Rattle.std.specs.Prelude.{◌≡◌, ℕ, zero, suc, ◌+◌, ◌-◌, ◌<◌, ◌≤◌, List, Option, Some, ◌==◌, refl, length, filter, unwrap_or}
+use Rattle.std.specs.Prelude.{◌≡◌, ℕ, ◌+◌, ◌-◌, ◌<◌, ◌≤◌, List, Option, Some, ◌==◌, refl, length, filter, unwrap_or}
 use Rattle.std.specs.Coded.{Coded, code_by, coded×, coded_ℕ, coded_list, coded_option}
 use Rattle.std.specs.FinMap as fin
 use Rattle.std.specs.Ordering.{nat_cmp}
+use Rattle.object_names.specs.KindCode.{kind_code}
 use Rattle.object_names.specs.declared.shown.NodeKind.{NodeKind}
-use Rattle.object_names.specs.declared.shown.NodeKind.TheVariants.{Dir, File, Symlink}
 use Rattle.object_names.specs.declared.shown.DirItem.{DirItem}
 use Rattle.spare_maps.specs.SpareMaps.{Numbered}
 
@@ -21,24 +21,9 @@ pub record Handles : Type 0 where
   pub spare : ℕ
 
 -- ---- how values are told apart
-abbrev pub kind_number : NodeKind → ℕ
-kind_number Dir = 0
-kind_number File = 1
-kind_number Symlink = 2
-
-abbrev pub numbered_kind : ℕ → NodeKind
-numbered_kind zero = Dir
-numbered_kind (suc zero) = File
-numbered_kind (suc (suc n)) = Symlink
-
-pub same_kind : (kind : NodeKind) → numbered_kind (kind_number kind) ≡ kind
-same_kind Dir = refl
-same_kind File = refl
-same_kind Symlink = refl
-
 abbrev pub item_code : Coded DirItem
 item_code =
-    code_by (List ℕ × NodeKind) (coded× (coded_list coded_ℕ) (code_by ℕ coded_ℕ kind_number numbered_kind same_kind))
+    code_by (List ℕ × NodeKind) (coded× (coded_list coded_ℕ) kind_code)
     (λ i. (i.shown, i.kind)) (λ p. record { shown = p.0; kind = p.1 }) (λ _. refl)
 
 abbrev pub opened_code : Coded Opened

@@ -42,7 +42,7 @@ IsUtf8-shown listed shown kind e = subst IsUtf8 (shown_of-bare_name shown) (with
     with_suffix false = part
 
 -- ---- one name put into the map
-bytes_eq_flip : (x y : List ℕ) → bytes_eq x y ≡ bytes_eq y x
+pub bytes_eq_flip : (x y : List ℕ) → bytes_eq x y ≡ bytes_eq y x
 bytes_eq_flip x y = same_from_decides (bytes_eq x y) (bytes_eq y x) (bytes_eq-Decides x y) (Decides-like (bytes_eq y x) sym sym (bytes_eq-Decides y x))
 
 pub puts_kind : (f : List ℕ → Option NodeKind) (old : Option NodeKind) (q shown : List ℕ) (kind : NodeKind) → f shown ≡ Some kind → cond (bytes_eq shown q) (Some kind) old ≡ cond (bytes_eq q shown && is_some (f shown)) (f q) old

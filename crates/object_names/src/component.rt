@@ -78,8 +78,9 @@ impl Component {
     }
 }
 
-/// The bytes as a text, where they are a component.
-pub(crate) fn component_text(bytes: &[u8]) -> Result<&str, NameFault>
+/// The bytes as a text, where they are a component; else their first fault. It is the test of a borrowed name, and asks
+/// for no memory.
+pub fn component_text(bytes: &[u8]) -> Result<&str, NameFault>
     ensures { MatchResult result (λ text. (text.now ≡ bytes.now) × (name_fault bytes.now ≡ None)) (λ fault. name_fault bytes.now ≡ Some fault) }
 {
     if bytes.is_empty() {

@@ -8,7 +8,7 @@ mod slow;
 #[cfg(test)]
 mod tests;
 
-pub use component::{Component, NameFault};
-pub use path::{PathFault, dir_prefix, join};
-pub use shown::{DirItem, NodeKind, shown_name, strip_suffix};
+pub use component::{Component, NameFault, component_text};
+pub use path::{PATH_MAX, PathFault, dir_prefix, join};
+pub use shown::{DirItem, NodeKind, entry_row, shown_name, strip_suffix};
 pub use slow::slow_entries;

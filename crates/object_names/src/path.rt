@@ -7,7 +7,7 @@ use std::alloc::Global;
 
 /// The greatest length of a path, in bytes. With a slash it is still an object name of at most 1,024 bytes, which is
 /// Cloud Storage's limit.
-pub(crate) const PATH_MAX: usize = 1023;
+pub const PATH_MAX: usize = 1023;
 
 /// Why a path was not made.
 #[derive(Clone, Copy, Debug, PartialEq, Eq)]

@@ -1,10 +1,14 @@
 ghost use Rattle.std.specs.Prelude.{◌≡◌, IfOk};
+ghost use Rattle.std.specs.BTreeMap.{IsOrdered};
+ghost use Rattle.std.specs.String.{string_cmp};
 ghost use Rattle.object_names.specs.Paths.{has_suffix, bare_name, shown_of, GivesBack};
+ghost use Rattle.object_names.specs.Slow.{items_of};
 
 use crate::component::Component;
 use crate::path::joined;
-use io_ports::{NoMemory, Text};
+use io_ports::{NoMemory, Row, Text};
 use std::alloc::Global;
+use std::collections::BTreeMap;
 
 /// What a node of the mount is.
 #[derive(Clone, Copy, Debug, PartialEq, Eq)]
@@ -48,4 +52,20 @@ pub fn shown_name(alloc: Global, part: &Component, suffix: bool) -> Result<Text,
         return joined(alloc, name, "\n");
     }
     Text::of(alloc, name)
+}
+
+/// The entries of a map from shown names to kinds, in its order. The names are moved, and not copied.
+pub fn entry_row(
+    alloc: Global,
+    entries: BTreeMap<String, NodeKind>,
+) -> Result<Row<DirItem>, NoMemory>
+    ensures ok { IfOk result (λ row. row.items ≡ items_of entries.entries) }
+    ensures ordered { IsOrdered string_cmp entries }
+{
+    let mut items = Vec::with_capacity(alloc, entries.len())?;
+    for (name, kind) in entries {
+        let shown = Text::from_string(name);
+        items.push(DirItem { shown, kind })?;
+    }
+    Ok(Row::from_vec(items))
 }

@@ -1,17 +1,15 @@
 ghost use Rattle.std.specs.Prelude.{◌≡◌, ◌++◌, ◌∷◌, [], ◌&&◌, length, is_none, nat_le, IfOk, OnOk};
-ghost use Rattle.std.specs.BTreeMap.{IsOrdered};
 ghost use Rattle.std.specs.List.{list_any};
 ghost use Rattle.std.specs.Str.{bytes_eq};
-ghost use Rattle.std.specs.String.{string_cmp};
 ghost use Rattle.object_names.specs.Components.{name_fault};
 ghost use Rattle.object_names.specs.Paths.{path_max};
 ghost use Rattle.object_names.specs.ShownNames as spec;
 ghost use Rattle.object_names.specs.ShownNames.{Listed, Shows, shown_entries};
-ghost use Rattle.object_names.specs.Slow.{listed_of, items_of, PutsShown};
+ghost use Rattle.object_names.specs.Slow.{listed_of, PutsShown};
 
 use crate::component::component_text;
 use crate::path::PATH_MAX;
-use crate::shown::{DirItem, NodeKind, strip_suffix};
+use crate::shown::{DirItem, NodeKind, entry_row, strip_suffix};
 use io_ports::{Bytes, NoMemory, Row, Text};
 use std::alloc::Global;
 use std::collections::BTreeMap;
@@ -52,7 +50,7 @@ pub fn slow_entries(
     for name in &names {
         put_shown(&mut entries, alloc, &source, name.as_slice())?;
     }
-    items_of(alloc, entries)
+    entry_row(alloc, entries)
 }
 
 /// Puts a name with what is shown under it, if anything is.
@@ -72,19 +70,6 @@ fn put_shown(
     };
     entries.insert(String::from_str(alloc, text)?, kind)?;
     Ok(())
-}
-
-/// The entries of the map, in its order.
-fn items_of(alloc: Global, entries: BTreeMap<String, NodeKind>) -> Result<Row<DirItem>, NoMemory>
-    ensures ok { IfOk result (λ row. row.items ≡ items_of entries.entries) }
-    ensures ordered { IsOrdered string_cmp entries }
-{
-    let mut items = Vec::with_capacity(alloc, entries.len())?;
-    for (name, kind) in entries {
-        let shown = Text::from_string(name);
-        items.push(DirItem { shown, kind })?;
-    }
-    Ok(Row::from_vec(items))
 }
 
 /// The names under which something may be shown.

@@ -27,15 +27,15 @@ loop-name-preserved c = λ q.
 -- the map holds under each name what is shown under it
 pub shows : goal.returns-clause-shows
 unfolding listed_here
-shows c = IfOk-weaker c.items_of.result (λ row. row.items ≡ items_of c.loop-name.entries.entries) (λ row. Shows (listed_here c) row.items)
-    (λ row e. subst (Shows (listed_here c)) (sym e) (Shows-map (listed_here c) c.loop-name.entries c.items_of.ensures.ordered (λ q.
+shows c = IfOk-weaker c.entry_row.result (λ row. row.items ≡ items_of c.loop-name.entries.entries) (λ row. Shows (listed_here c) row.items)
+    (λ row e. subst (Shows (listed_here c)) (sym e) (Shows-map (listed_here c) c.loop-name.entries c.entry_row.ensures.ordered (λ q.
     names_done (listed_here c) q c.deref-name-items.result.now c.loop-name.name-index _ c.loop-name-test.false (c.deref-name-items.ensures.value ∙ c.in_ok-names.ensures.ok) (c.loop-name.invariant q))))
-    c.items_of.ensures.ok
+    c.entry_row.ensures.ok
 
 pub returns-clause-shows : goal.returns-clause-shows
 returns-clause-shows c = shows c
 
 pub returns-clause-ok : goal.returns-clause-ok
 unfolding listed_here
-returns-clause-ok c = IfOk-weaker c.items_of.result (λ row. Shows (listed_here c) row.items) (λ row. row.items ≡ shown_entries (listed_here c))
+returns-clause-ok c = IfOk-weaker c.entry_row.result (λ row. Shows (listed_here c) row.items) (λ row. row.items ≡ shown_entries (listed_here c))
     (λ row. shown_entries-from_Shows (listed_here c) row.items) (shows c)
