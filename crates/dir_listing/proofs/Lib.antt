@@ -1,4 +1,4 @@
-mod DirLemmas
 mod FileLemmas
+mod KeptLemmas
 pub mod PageLemmas
 mod PartLemmas

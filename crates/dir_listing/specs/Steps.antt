@@ -1,63 +1,69 @@
--- How the entries of a directory come together in a map from shown names to kinds: first the directories, then item by
--- item the files and symlinks.
-use Rattle.std.specs.Prelude.{◌≡◌, ◌≢◌, ℕ, Bool, true, false, ◌&&◌, ◌||◌, List, [], ◌++◌, map, Option, Some, None, is_some, String, if◌then◌else◌, MatchOption}
+-- How the entries of a directory come together in a map from shown names to kinds: first the directories, then file by
+-- file the files and symlinks.
+use Rattle.std.specs.Prelude.{◌≡◌, ℕ, Bool, true, false, ◌&&◌, ◌||◌, List, map, filter, Option, Some, None, String, if◌then◌else◌, All}
 use Rattle.std.specs.BTreeMap.{BTreeMap, get_by_text}
 use Rattle.std.specs.List.{list_any}
 use Rattle.std.specs.Str.{bytes_eq}
+use Rattle.object_names.specs.Components.{IsComponent}
 use Rattle.object_names.specs.Paths.{has_suffix, bare_name}
-use Rattle.object_names.specs.ShownNames.{Listed, file_key, dir_key, first_kind, can_show, file_kind}
-use Rattle.object_names.specs.declared.component.NameFault.{NameFault}
-use Rattle.object_names.specs.declared.component.NameFault.TheVariants.{NoMemory}
+use Rattle.object_names.specs.ShownNames.{first_kind}
+use Rattle.object_names.specs.declared.shown.DirItem.{DirItem}
 use Rattle.object_names.specs.declared.shown.NodeKind.{NodeKind}
 use Rattle.object_names.specs.declared.shown.NodeKind.TheVariants.{Dir}
 use Rattle.dir_listing.specs.Kinds.{file_or_link}
-use Rattle.dir_listing.specs.declared.items.ListedItem.{ListedItem}
+use Rattle.dir_listing.specs.declared.kept.Kept.{Kept}
+use Rattle.dir_listing.specs.declared.roles.Role.{Role}
+use Rattle.dir_listing.specs.declared.roles.Role.TheVariants.{Placeholder, FileObject, NoEntry}
 
-abbrev pub is_memory : NameFault → Bool
-is_memory NoMemory = true
-is_memory fault = false
+abbrev pub is_placeholder : Role → Bool
+is_placeholder Placeholder = true
+is_placeholder FileObject = false
+is_placeholder NoEntry = false
+
+abbrev pub is_file_object : Role → Bool
+is_file_object Placeholder = false
+is_file_object FileObject = true
+is_file_object NoEntry = false
+
+-- ---- the directories
+-- whether this was kept of the directory of this part
+abbrev pub is_dir_of : List ℕ → Kept → Bool
+is_dir_of part kept = is_placeholder kept.role && bytes_eq kept.text part
+
+abbrev pub kept_dir : List Kept → List ℕ → Bool
+kept_dir names part = list_any (is_dir_of part) names
+
+-- whether items, or prefixes where they make directories, tell of the directory of this part
+abbrev pub kept_dirs : List Kept → List Kept → Bool → List ℕ → Bool
+kept_dirs items prefixes implicit part = kept_dir items part || (implicit && kept_dir prefixes part)
+
+-- ---- the files and symlinks
+abbrev pub kept_files : List Kept → List DirItem
+kept_files names = map (λ kept. record { shown = kept.text; kind = file_or_link kept.link }) (filter (λ kept. is_file_object kept.role) names)
 
 abbrev pub is_dir_kind : Option NodeKind → Bool
 is_dir_kind (Some Dir) = true
 is_dir_kind kind = false
 
--- what a kept item tells
-abbrev pub told : ListedItem → (List ℕ × NodeKind)
-told item = (item.name, file_or_link item.link)
+-- a file or symlink under a name without the suffix
+pub record IsFile (file : DirItem) : Type 0 where
+  pub component : IsComponent file.shown
+  pub plain : is_dir_kind (Some file.kind) ≡ false
 
--- what was kept, as what was listed
-abbrev pub listed_of : List ℕ → List ListedItem → List (List ℕ) → Bool → Listed
-listed_of prefix items prefixes implicit = record { prefix = prefix; items = map told items; prefixes = prefixes; implicit = implicit }
+-- the kind that the first file of this part has
+abbrev pub file_in : List DirItem → List ℕ → Option NodeKind
+file_in files part = first_kind part (map (λ file. (file.shown, file.kind)) files)
 
--- a directory of this prefix, with these items
-abbrev pub under : List ℕ → List (List ℕ × NodeKind) → Listed
-under prefix items = record { prefix = prefix; items = items; prefixes = []; implicit = false }
+-- the first of two kinds, where there is one
+abbrev pub first_of : Option NodeKind → NodeKind → NodeKind
+first_of None kind = kind
+first_of (Some first) kind = first
 
--- the part that a path leaves after the prefix, where it can be shown
-abbrev pub FindsPart : List ℕ → List ℕ → Option (List ℕ) → Type 0
-FindsPart prefix path found = MatchOption found
-    ((q : List ℕ) → can_show (under prefix []) q ≡ true → path ≢ prefix ++ q)
-    (λ part. (can_show (under prefix []) part ≡ true) × (path ≡ prefix ++ part))
+-- the files, with one more
+abbrev pub with_file : List ℕ → NodeKind → (List ℕ → Option NodeKind) → List ℕ → Option NodeKind
+with_file name kind file part = if bytes_eq part name then Some (first_of (file part) kind) else file part
 
--- whether an object of this name is the file of this part, or the placeholder of the directory of this part
-abbrev pub names_file : List ℕ → List ℕ → List ℕ → Bool
-names_file prefix name part = can_show (under prefix []) part && bytes_eq (file_key (under prefix []) part) name
-
-abbrev pub names_dir : List ℕ → List ℕ → List ℕ → Bool
-names_dir prefix name part = can_show (under prefix []) part && bytes_eq (dir_key (under prefix []) part) name
-
--- whether a directory of this part was told by these items, and by these prefixes too
-abbrev pub placed : List ℕ → List ListedItem → List ℕ → Bool
-placed prefix items part = can_show (under prefix []) part && is_some (first_kind (dir_key (under prefix []) part) (map told items))
-
-abbrev pub implied : List ℕ → List ListedItem → List (List ℕ) → List ℕ → Bool
-implied prefix items names part = can_show (under prefix []) part
-    && (is_some (first_kind (dir_key (under prefix []) part) (map told items)) || list_any (bytes_eq (dir_key (under prefix []) part)) names)
-
--- the kind of the file or symlink that these items tell of a part
-abbrev pub told_file : List ℕ → List ListedItem → List ℕ → Option NodeKind
-told_file prefix items part = file_kind (under prefix (map told items)) part
-
+-- ---- both together
 -- what is shown under a name, where these are the directories and these the files
 abbrev pub kind_with : (List ℕ → Bool) → (List ℕ → Option NodeKind) → List ℕ → Option NodeKind
 kind_with is_dir file shown =
@@ -65,26 +71,27 @@ kind_with is_dir file shown =
     else if is_dir shown then Some Dir
     else file shown
 
--- the first of two kinds, where there is one
-abbrev pub first_of : Option NodeKind → NodeKind → NodeKind
-first_of None kind = kind
-first_of (Some first) kind = first
-
--- the files, with one object more
-abbrev pub with_file : List ℕ → List ℕ → NodeKind → (List ℕ → Option NodeKind) → List ℕ → Option NodeKind
-with_file prefix name kind file part = if names_file prefix name part then Some (first_of (file part) kind) else file part
-
 module _ {Y : Type 0} where
   -- the map has these entries
   abbrev pub Has : (List ℕ → Option NodeKind) → BTreeMap (String Y) NodeKind → Type 0
   Has kind entries = (shown : List ℕ) → get_by_text entries shown ≡ kind shown
 
   -- the directory of this name was put into the map, if it is one
-  abbrev pub PutsDir : List ℕ → List ℕ → BTreeMap (String Y) NodeKind → BTreeMap (String Y) NodeKind → Type 0
-  PutsDir prefix name old new = (shown : List ℕ) → get_by_text new shown ≡ (if names_dir prefix name shown then Some Dir else get_by_text old shown)
+  abbrev pub PutsDir : Kept → BTreeMap (String Y) NodeKind → BTreeMap (String Y) NodeKind → Type 0
+  PutsDir kept old new = (shown : List ℕ) → get_by_text new shown ≡ (if is_dir_of shown kept then Some Dir else get_by_text old shown)
 
-  -- the file of this name was put into the map, if it is one, whatever directories and files it had
-  abbrev pub PutsFile : List ℕ → List ℕ → NodeKind → BTreeMap (String Y) NodeKind → BTreeMap (String Y) NodeKind → Type 0
-  PutsFile prefix name kind old new = (is_dir : List ℕ → Bool) (file : List ℕ → Option NodeKind)
-      → ((part : List ℕ) → is_dir_kind (file part) ≡ false)
-      → Has (kind_with is_dir file) old → Has (kind_with is_dir (with_file prefix name kind file)) new
+  -- the directories of these prefixes were, where prefixes make directories
+  abbrev pub PutsDirs : List Kept → Bool → BTreeMap (String Y) NodeKind → BTreeMap (String Y) NodeKind → Type 0
+  PutsDirs prefixes implicit old new = (shown : List ℕ) → get_by_text new shown ≡ (if implicit && kept_dir prefixes shown then Some Dir else get_by_text old shown)
+
+  -- this file was put into the map, whatever directories and files it had
+  abbrev pub PutsFile : List ℕ → NodeKind → BTreeMap (String Y) NodeKind → BTreeMap (String Y) NodeKind → Type 0
+  PutsFile name kind old new = (is_dir : List ℕ → Bool) (file : List ℕ → Option NodeKind)
+      → IsComponent name → is_dir_kind (file name) ≡ false
+      → Has (kind_with is_dir file) old → Has (kind_with is_dir (with_file name kind file)) new
+
+  -- these files were, whatever directories it had, of which no name has the suffix
+  abbrev pub PutsFiles : List DirItem → BTreeMap (String Y) NodeKind → BTreeMap (String Y) NodeKind → Type 0
+  PutsFiles files old new = (is_dir : List ℕ → Bool) → ((part : List ℕ) → has_suffix part ≡ true → is_dir part ≡ false)
+      → All IsFile files
+      → Has (λ shown. if is_dir shown then Some Dir else None) old → Has (kind_with is_dir (file_in files)) new

@@ -1,99 +1,119 @@
-ghost use Rattle.std.specs.Prelude.{◌≡◌, Some, None, IfOk, OnOk, if◌then◌else◌};
-ghost use Rattle.std.specs.BTreeMap.{get_by_text, IsOrdered};
-ghost use Rattle.std.specs.String.{string_cmp};
-ghost use Rattle.object_names.specs.ShownNames.{has_dir, kind_shown};
-ghost use Rattle.object_names.specs.Slow as slow;
+ghost use Rattle.std.specs.Prelude.{◌≡◌, ◌++◌, ◌∷◌, [], ◌&&◌, Some, None, IfOk, OnOk, string_bytes, if◌then◌else◌};
+ghost use Rattle.std.specs.BTreeMap.{get_by_text};
+ghost use Rattle.object_names.specs.Paths.{shown_of};
 ghost use Rattle.object_names.specs.declared.shown.NodeKind.TheVariants.{Dir};
-ghost use Rattle.dir_listing.specs.Kinds.{file_or_link};
-ghost use Rattle.dir_listing.specs.Steps.{Has, PutsDir, PutsFile, is_dir_kind, listed_of};
+ghost use Rattle.dir_listing.specs.Steps.{Has, PutsDir, PutsDirs, PutsFile, PutsFiles, is_dir_kind, kept_dir, kept_files};
 
-use crate::items::ListedItem;
-use crate::parts::{dir_path, shown_part};
-use io_ports::{NoMemory, Row, Text};
-use object_names::{DirItem, NodeKind, shown_name};
+use crate::kept::Kept;
+use crate::roles::Role;
+use io_ports::NoMemory;
+use object_names::{DirItem, NodeKind};
 use std::alloc::Global;
 use std::collections::BTreeMap;
 
-/// The entries of a directory by their shown names: first the directories, then the files and symlinks, each under the
-/// suffix where a directory of its name stands already. Of two items of one name the first stays.
-pub(crate) fn entry_map(
+/// The directories among these items by their names, and the files and symlinks in their order. The names are moved.
+pub(crate) fn parted(
     alloc: Global,
-    prefix: &[u8],
-    items: &[ListedItem],
-    prefixes: &[Text],
-    implicit: bool,
-) -> Result<BTreeMap<String, NodeKind>, NoMemory>
-    ensures ok { IfOk result (λ entries. Has (kind_shown (listed_of prefix.now items.now prefixes.now implicit)) entries) }
-{
-    let mut entries = dir_map(alloc, prefix, items, prefixes, implicit)?;
-    for item in items {
-        put_file(&mut entries, alloc, prefix, item)?;
-    }
-    Ok(entries)
-}
-
-/// The directories alone.
-fn dir_map(
-    alloc: Global,
-    prefix: &[u8],
-    items: &[ListedItem],
-    prefixes: &[Text],
-    implicit: bool,
-) -> Result<BTreeMap<String, NodeKind>, NoMemory>
-    ensures ok { IfOk result (λ entries. Has (λ shown. if has_dir (listed_of prefix.now items.now prefixes.now implicit) shown then Some Dir else None) entries) }
+    items: Vec<Kept>,
+) -> Result<(BTreeMap<String, NodeKind>, Vec<DirItem>), NoMemory>
+    ensures dirs { IfOk result (λ found. Has (λ shown. if kept_dir items.items shown then Some Dir else None) found.0) }
+    ensures files { IfOk result (λ found. found.1.items ≡ kept_files items.items) }
 {
     let mut entries = BTreeMap::new(alloc);
+    let mut files = Vec::new(alloc);
     for item in items {
-        put_dir(&mut entries, alloc, prefix, &item.name)?;
+        put_item(&mut entries, &mut files, item)?;
     }
-    if !implicit {
-        return Ok(entries);
-    }
-    for name in prefixes {
-        put_dir(&mut entries, alloc, prefix, name)?;
-    }
-    Ok(entries)
+    Ok((entries, files))
 }
 
-/// Puts the directory of this name into the map, if the name is that of a placeholder that can be shown.
-fn put_dir(
+/// Puts the directory of an item into the map, and its file behind the files.
+fn put_item(
     entries: &mut BTreeMap<String, NodeKind>,
-    alloc: Global,
-    prefix: &[u8],
-    name: &Text,
+    files: &mut Vec<DirItem>,
+    item: Kept,
 ) -> Result<(), NoMemory>
-    ensures ok { OnOk result (PutsDir prefix.now name.now entries.old entries.new) }
+    ensures dirs { OnOk result (PutsDir item entries.old entries.new) }
+    ensures files { OnOk result (files.new.items ≡ files.old.items ++ kept_files (item ∷ [])) }
 {
-    let Some(path) = dir_path(name.as_str().as_bytes()) else {
+    match item.role {
+        Role::FileObject => {
+            let kind = item.kind();
+            let shown = item.text;
+            files.push(DirItem { shown, kind })?;
+            Ok(())
+        }
+        Role::Placeholder => put_dir(entries, item),
+        Role::NoEntry => Ok(()),
+    }
+}
+
+/// Puts the directories of these prefixes into the map, where prefixes make directories.
+pub(crate) fn put_dirs(
+    entries: &mut BTreeMap<String, NodeKind>,
+    prefixes: Vec<Kept>,
+    implicit: bool,
+) -> Result<(), NoMemory>
+    ensures ok { OnOk result (PutsDirs prefixes.items implicit entries.old entries.new) }
+{
+    if !implicit {
         return Ok(());
-    };
-    let Some(part) = shown_part(alloc, prefix, path)? else {
-        return Ok(());
-    };
-    let shown = String::from_str(alloc, part.as_str())?;
-    entries.insert(shown, NodeKind::Dir)?;
+    }
+    for prefix in prefixes {
+        put_dir(entries, prefix)?;
+    }
     Ok(())
 }
 
-/// Puts the file or symlink of this item into the map, if its name can be shown and no earlier item has it.
-fn put_file(
-    entries: &mut BTreeMap<String, NodeKind>,
-    alloc: Global,
-    prefix: &[u8],
-    item: &ListedItem,
-) -> Result<(), NoMemory>
-    ensures ok { OnOk result (PutsFile prefix.now item.now.name (file_or_link item.now.link) entries.old entries.new) }
+/// Puts the directory of a listed name into the map, if there is one.
+fn put_dir(entries: &mut BTreeMap<String, NodeKind>, name: Kept) -> Result<(), NoMemory>
+    ensures ok { OnOk result (PutsDir name entries.old entries.new) }
 {
-    let Some(part) = shown_part(alloc, prefix, item.name.as_str().as_bytes())? else {
-        return Ok(());
-    };
-    let hidden = is_dir(entries, part.as_str());
-    let shown = shown_name(alloc, &part, hidden)?;
+    match name.role {
+        Role::Placeholder => {
+            entries.insert(name.text.into_string(), NodeKind::Dir)?;
+            Ok(())
+        }
+        Role::FileObject | Role::NoEntry => Ok(()),
+    }
+}
+
+/// Puts these files and symlinks into the map of the directories, in their order.
+pub(crate) fn put_files(
+    entries: &mut BTreeMap<String, NodeKind>,
+    files: Vec<DirItem>,
+) -> Result<(), NoMemory>
+    ensures ok { OnOk result (PutsFiles files.items entries.old entries.new) }
+{
+    for file in files {
+        put_file(entries, file)?;
+    }
+    Ok(())
+}
+
+/// Puts a file or symlink into the map, if no earlier one has its name: under its name, with the suffix where a directory
+/// of this name stands there already.
+fn put_file(entries: &mut BTreeMap<String, NodeKind>, file: DirItem) -> Result<(), NoMemory>
+    ensures ok { OnOk result (PutsFile file.shown file.kind entries.old entries.new) }
+{
+    let hidden = is_dir(entries, file.shown.as_str());
+    let shown = with_suffix(file.shown.into_string(), hidden)?;
     if entries.contains_key(shown.as_str()) {
         return Ok(());
     }
-    entries.insert(shown.into_string(), item.kind())?;
+    entries.insert(shown, file.kind)?;
     Ok(())
+}
+
+/// The same name, with the suffix behind it where it is to have it.
+fn with_suffix(name: String, suffix: bool) -> Result<String, NoMemory>
+    ensures ok { IfOk result (λ shown. string_bytes shown ≡ shown_of (string_bytes name) suffix) }
+{
+    let mut shown = name;
+    if suffix {
+        shown.push('\n')?;
+    }
+    Ok(shown)
 }
 
 /// Whether a directory stands under this name.
@@ -108,20 +128,4 @@ fn is_dir(entries: &BTreeMap<String, NodeKind>, name: &str) -> bool
         NodeKind::File => false,
         NodeKind::Symlink => false,
     }
-}
-
-/// The entries of the map, in its order.
-pub(crate) fn items_of(
-    alloc: Global,
-    entries: BTreeMap<String, NodeKind>,
-) -> Result<Row<DirItem>, NoMemory>
-    ensures ok { IfOk result (λ row. row.items ≡ slow.items_of entries.entries) }
-    ensures ordered { IsOrdered string_cmp entries }
-{
-    let mut items = Vec::with_capacity(alloc, entries.len())?;
-    for (name, kind) in entries {
-        let shown = Text::from_string(name);
-        items.push(DirItem { shown, kind })?;
-    }
-    Ok(Row::from_vec(items))
 }

@@ -2,9 +2,9 @@
 #![tactic(auto)]
 
 mod entries;
-mod items;
+mod kept;
 mod listing;
-mod parts;
+mod roles;
 #[cfg(test)]
 mod tests;
 

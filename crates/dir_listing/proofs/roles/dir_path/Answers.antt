@@ -2,7 +2,7 @@ use Rattle.std.proofs.Common.{◌≡◌, ◌≢◌, ℕ, ◌++◌, List, subst}
 use Rattle.std.proofs.lemmas.Bool.Decides.{Decides-eqb}
 use Rattle.std.proofs.lemmas.Slice.Eq.{strip_suffix_is}
 use Rattle.std.specs.Option.{MatchOption}
-use Rattle.dir_listing.proofs.parts.dir_path.Goals as goal
+use Rattle.dir_listing.proofs.roles.dir_path.Goals as goal
 
 pub returns : goal.returns
 returns c =

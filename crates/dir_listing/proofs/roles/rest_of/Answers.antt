@@ -1,6 +1,6 @@
 use Rattle.std.proofs.lemmas.Bool.Decides.{Decides-eqb}
 use Rattle.std.proofs.lemmas.Slice.Eq.{strip_prefix_is}
-use Rattle.dir_listing.proofs.parts.rest_of.Goals as goal
+use Rattle.dir_listing.proofs.roles.rest_of.Goals as goal
 
 pub returns : goal.returns
 returns c = strip_prefix_is Decides-eqb c.args.path.now c.args.prefix.now c.strip_prefix.result c.strip_prefix.ensures.cases

@@ -1,6 +1,0 @@
-use Rattle.std.proofs.Common.{◌≡◌}
-use Rattle.object_names.specs.Slow.{items_of}
-use Rattle.dir_listing.proofs.entries.items_of.Given as goal
-
-abbrev pub invariant-loop-name : goal.invariant-loop-name
-invariant-loop-name l = l.items.items ≡ items_of l.yielded

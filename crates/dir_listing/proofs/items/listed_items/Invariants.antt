@@ -1,7 +1,0 @@
-use Rattle.std.proofs.Common.{◌≡◌, map, take}
-use Rattle.dir_listing.specs.Pages.{item_of}
-use Rattle.dir_listing.specs.Steps.{told}
-use Rattle.dir_listing.proofs.items.listed_items.Given as goal
-
-abbrev pub invariant-loop-meta : goal.invariant-loop-meta
-invariant-loop-meta l = map told l.items.items ≡ map item_of (take l.meta-index l.metas)
