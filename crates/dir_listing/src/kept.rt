@@ -1,17 +1,14 @@
 ghost use Rattle.std.specs.Prelude.{◌≡◌, map, IfOk};
-ghost use Rattle.dir_listing.specs.Kinds as kinds;
 ghost use Rattle.dir_listing.specs.Kinds.{file_or_link};
 ghost use Rattle.dir_listing.specs.Names.{told, kept_name, FitsAll, Keeps};
 ghost use Rattle.dir_listing.specs.Pages.{item_of};
 
+use crate::kinds::has_target;
 use crate::roles::{Role, role_of};
-use bucket_api::{Meta, Pair};
+use bucket_api::Meta;
 use io_ports::{NoMemory, Text};
 use object_names::NodeKind;
 use std::alloc::Global;
-
-/// The metadata key under which gcsfuse keeps a symlink's target.
-const TARGET_KEY: &str = "gcsfuse_symlink_target";
 
 /// What is kept of a listed name. The text is its one copy, and becomes the shown name where there is an entry.
 #[derive(Drop)]
@@ -92,11 +89,4 @@ fn copy_with_room(alloc: Global, text: &str) -> Result<Text, NoMemory>
     let mut copy = String::with_capacity(alloc, text.len() + 1)?;
     copy.push_str(text)?;
     Ok(Text::from_string(copy))
-}
-
-/// Whether a symlink's target is among these pairs.
-fn has_target(pairs: &[Pair]) -> bool
-    ensures { result ≡ kinds.has_target pairs.now }
-{
-    pairs.iter().any(|pair| pair.key.as_str() == TARGET_KEY)
 }

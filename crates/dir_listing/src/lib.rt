@@ -3,9 +3,11 @@
 
 mod entries;
 mod kept;
+mod kinds;
 mod listing;
 mod roles;
 #[cfg(test)]
 mod tests;
 
+pub use kinds::{node_kind, target_pair};
 pub use listing::Listing;

@@ -36,7 +36,7 @@ const TAKEN: u64 = 1;
 
 pub(crate) const AWAITED: u64 = 2;
 
-// Tries once for the turn. A thread that is about to sleep marks it, so that who leaves wakes a sleeper.
+/// Tries once for the turn. A thread that is about to sleep marks it, so that who leaves wakes a sleeper.
 fn try_turn<S: Booked>(board: &Board<S>, place: &mut Place<S>, about_to_sleep: bool) -> bool
     requires board { (place.old.table_id ≡ board.now.table_id) × (board.now.table_id.words ≡ 2) }
     requires own { has place.old.me.0.held place.old.me.0.number ≡ true }
@@ -49,7 +49,7 @@ fn try_turn<S: Booked>(board: &Board<S>, place: &mut Place<S>, about_to_sleep: b
     board.compare_exchange::<Take>(place, TURN, FREE, TAKEN) == FREE
 }
 
-// Waits for the turn: spins for a little, then yields, then sleeps until a thread leaves.
+/// Waits for the turn: spins for a little, then yields, then sleeps until a thread leaves.
 pub(crate) fn take_turn<S: Booked, T: Wait>(rt: &T, board: &Board<S>, place: &mut Place<S>)
     requires board { (place.old.table_id ≡ board.now.table_id) × (board.now.table_id.words ≡ 2) }
     requires own { has place.old.me.0.held place.old.me.0.number ≡ true }
@@ -71,7 +71,7 @@ pub(crate) fn take_turn<S: Booked, T: Wait>(rt: &T, board: &Board<S>, place: &mu
     unreachable!()
 }
 
-// Makes the entry that follows in the state's list.
+/// Makes the entry that follows in the state's list.
 pub(crate) fn write_next<S: Booked, N: Next<S::Entry>>(
     board: &Board<S>,
     place: &mut Place<S>,
@@ -88,7 +88,7 @@ pub(crate) fn write_next<S: Booked, N: Next<S::Entry>>(
     board.fetch_add::<Write<N>>(place, LENGTH, 1);
 }
 
-// Gives a number to a new place.
+/// Gives a number to a new place.
 pub(crate) fn give<S: Booked, N: Given>(
     board: &Board<S>,
     place: &mut Place<S>,
@@ -105,7 +105,7 @@ pub(crate) fn give<S: Booked, N: Given>(
     board.split_seat::<Give<N>>(place)
 }
 
-// Takes in another place, with the longer of what the two had seen.
+/// Takes in another place, with the longer of what the two had seen.
 pub(crate) fn take_in<S: Booked>(board: &Board<S>, place: &mut Place<S>, other: Place<S>)
     requires board { (place.old.table_id ≡ board.now.table_id) × (other.table_id ≡ board.now.table_id) × (board.now.table_id.words ≡ 2) }
     requires outside { (place.old.me.0.entered ≡ false) × (other.me.0.entered ≡ false) × (other.me.1 ≡ []) }
