@@ -5,7 +5,8 @@ use Rattle.fuse_replies.specs.declared.reply.Reply.{Reply}
 use Rattle.fuse_replies.specs.Replies.{frame_of}
 use Rattle.mount_model.specs.declared.config.Config.{Config}
 use Rattle.mount_spec.specs.OneThread.{RunState, Call, performed, short, IsLawful, IsRun, reply_in, state_after_call, state_after_calls, text_of, asked_by, asked_in, Performs, Serves, BeginsServing}
-use Rattle.mount_spec.specs.Rules.{Step, finish, ask, plan}
+use Rattle.mount_spec.specs.Rules.{plan}
+use Rattle.mount_spec.specs.Observations.{Step, done, ask}
 
 pub state_after_calls-append : (config : Config) (state : RunState) (first then : List Call)
     → state_after_calls config state (first ++ then) ≡ state_after_calls config (state_after_calls config state first) then
@@ -64,7 +65,7 @@ Serves-append config from between to first then put more one two =
 some_call : (config : Config) (state : RunState) (frame : List ℕ) (step : Step)
     → plan config state.mount (asked_in frame).1 [] ≡ step
     → (call : Call) × (asked_by call ≡ asked_in frame) × IsLawful config state call
-some_call config state frame finish is =
+some_call config state frame done is =
     (record { unique = (asked_in frame).0; request = (asked_in frame).1; seen = []; ending = performed }, refl, is)
 some_call config state frame (ask op) is =
     (record { unique = (asked_in frame).0; request = (asked_in frame).1; seen = []; ending = short }, refl, (tt, λ none. cc))
@@ -130,8 +131,8 @@ BeginsServing-more config from first then put one =
 pub Serves-request : (config : Config) (state after : RunState) (frame : List ℕ) (reply : Reply)
     → Performs config state (asked_in frame).1 reply after
     → Serves config state (frame ∷ []) (frame_of (asked_in frame).0 reply) after
-Serves-request config state after frame reply done =
-    let call : Call = record { unique = (asked_in frame).0; request = (asked_in frame).1; seen = done.seen; ending = done.ending } in
-    subst (λ text. Serves config state (frame ∷ []) text after) (ap (frame_of (asked_in frame).0) (sym done.answered))
-    (subst (Serves config state (frame ∷ []) (frame_of (asked_in frame).0 (reply_in config state call))) (sym done.left)
-    (Serves-one config state call frame refl done.lawful))
+Serves-request config state after frame reply one =
+    let call : Call = record { unique = (asked_in frame).0; request = (asked_in frame).1; seen = one.seen; ending = one.ending } in
+    subst (λ text. Serves config state (frame ∷ []) text after) (ap (frame_of (asked_in frame).0) (sym one.answered))
+    (subst (Serves config state (frame ∷ []) (frame_of (asked_in frame).0 (reply_in config state call))) (sym one.left)
+    (Serves-one config state call frame refl one.lawful))

@@ -1,9 +1,21 @@
 -- The errors that the mount answers, by their numbers in Linux errno.h.
 use Rattle.std.specs.Prelude.{ℕ}
 
+-- no object of the name
+abbrev pub enoent : ℕ
+enoent = 2
+
+-- the bucket failed
+abbrev pub eio : ℕ
+eio = 5
+
 -- no memory
 abbrev pub enomem : ℕ
 enomem = 12
+
+-- an object of the name is there
+abbrev pub eexist : ℕ
+eexist = 17
 
 -- a body, a name or a number that isn't allowed
 abbrev pub einval : ℕ

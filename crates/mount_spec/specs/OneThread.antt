@@ -1,8 +1,6 @@
 -- The mount on one thread: requests performed one after the other, each at once, on a mount and a bucket.
-use Rattle.std.specs.Prelude.{◌≡◌, ◌≢◌, ℕ, ◌+◌, List, [], ◌∷◌, ◌++◌, map}
+use Rattle.std.specs.Prelude.{◌≡◌, ◌≢◌, ℕ, List, [], ◌∷◌, ◌++◌, map}
 use Rattle.bucket_api.specs.BucketState.{BucketState}
-use Rattle.bucket_api.specs.BucketStep.{answer_to, state_after}
-use Rattle.bucket_api.specs.Operation.{Operation, insert, update, delete}
 use Rattle.fuse_head.specs.Head.{in_head}
 use Rattle.fuse_replies.specs.declared.reply.Reply.{Reply}
 use Rattle.fuse_replies.specs.declared.reply.Reply.TheVariants.{Error}
@@ -12,17 +10,18 @@ use Rattle.fuse_requests.specs.Grammar.{request_of}
 use Rattle.mount_model.specs.declared.config.Config.{Config}
 use Rattle.mount_spec.specs.Errno.{enomem}
 use Rattle.mount_spec.specs.MountModel.{MountModel, first_mount}
-use Rattle.mount_spec.specs.Rules.{Observation, finish, ask, plan, reply_to, mount_after}
+use Rattle.mount_spec.specs.Rules.{plan, reply_to, mount_after}
+use Rattle.mount_spec.specs.Observations.{Observation, done, after_operations, Completes, Begins}
+use Rattle.mount_spec.specs.Store.{Store}
 
--- A mount, its bucket, and how many operations were made on the bucket.
+-- A mount over its bucket.
 pub record RunState : Type 0 where
   pub mount : MountModel
-  pub bucket : BucketState
-  pub made : ℕ
+  pub store : Store
 
 -- a mount before its first request, over this bucket
 abbrev pub first_state : BucketState → RunState
-first_state bucket = record { mount = first_mount; bucket = bucket; made = 0 }
+first_state bucket = record { mount = first_mount; store = record { bucket = bucket; made = 0 } }
 
 -- How a call ended: it was performed to its end, or memory was refused to it on the way.
 pub data Ending : Type 0 where
@@ -36,47 +35,11 @@ pub record Call : Type 0 where
   pub seen : List Observation
   pub ending : Ending
 
--- one more operation was made
-abbrev pub after_operation : RunState → Operation → RunState
-after_operation state op = record state { bucket = state_after op state.bucket; made = state.made + 1 }
-
--- the operations that were observed were made, in order
-abbrev pub after_operations : RunState → List Observation → RunState
-after_operations state [] = state
-after_operations state (o ∷ more) = after_operations (after_operation state o.op) more
-
--- the bucket, as it stands, answers this operation so, at this moment
-pub record IsObserved (state : RunState) (o : Observation) : Type 0 where
-  pub moment : o.moment ≡ state.made + 1
-  pub answer : o.answer ≡ answer_to o.op state.bucket
-
--- From what it has seen on, the request makes these further operations and is then done with the bucket:
--- each is what its plan asks next, and is answered by the bucket as it stands.
-abbrev pub Completes : Config → MountModel → Request → List Observation → RunState → List Observation → Type 0
-Completes config mount request seen state [] = plan config mount request seen ≡ finish
-Completes config mount request seen state (o ∷ more) =
-    (plan config mount request seen ≡ ask o.op) × IsObserved state o
-    × Completes config mount request (seen ++ o ∷ []) (after_operation state o.op) more
-
--- an operation that a call may have made before it stops short: any but an insert, an update or a delete
-abbrev pub IsHarmless : Operation → Type 0
-IsHarmless (insert name content pairs only stamp) = ⊥
-IsHarmless (update name pairs only only_meta stamp) = ⊥
-IsHarmless (delete name only) = ⊥
-IsHarmless op = Unit {0}
-
--- From what it has seen on, the request makes these further operations and stops short.
-abbrev pub Begins : Config → MountModel → Request → List Observation → RunState → List Observation → Type 0
-Begins config mount request seen state [] = Unit {0}
-Begins config mount request seen state (o ∷ more) =
-    (plan config mount request seen ≡ ask o.op) × IsObserved state o × IsHarmless o.op
-    × Begins config mount request (seen ++ o ∷ []) (after_operation state o.op) more
-
 -- The call is one that the mount may make in this state. Memory is never refused to a request that asks
 -- nothing of the bucket.
 abbrev pub IsLawfulBy : Config → RunState → Call → Ending → Type 0
-IsLawfulBy config state call performed = Completes config state.mount call.request [] state call.seen
-IsLawfulBy config state call short = Begins config state.mount call.request [] state call.seen × (plan config state.mount call.request [] ≢ finish)
+IsLawfulBy config state call performed = Completes (plan config state.mount call.request) state.store call.seen
+IsLawfulBy config state call short = Begins (plan config state.mount call.request) state.store call.seen × (plan config state.mount call.request [] ≢ done)
 
 abbrev pub IsLawful : Config → RunState → Call → Type 0
 IsLawful config state call = IsLawfulBy config state call call.ending
@@ -96,7 +59,7 @@ reply_in config state call = reply_by config state call call.ending
 
 -- the mount and the bucket after the call
 abbrev pub state_after_call : Config → RunState → Call → RunState
-state_after_call config state call = record (after_operations state call.seen) { mount = mount_by config state call call.ending }
+state_after_call config state call = record { mount = mount_by config state call call.ending; store = after_operations state.store call.seen }
 
 -- One more request is performed, or stops short: what it is answered, and the state that it leaves.
 pub record Performs (config : Config) (state : RunState) (request : Request) (answer : Reply) (after : RunState) : Type 0 where

@@ -7,6 +7,9 @@ use Rattle.fuse_replies.specs.declared.reply.Reply.TheVariants.{Error, InitDone}
 use Rattle.mount_spec.specs.Errno.{eproto}
 use Rattle.mount_spec.specs.MountModel.{MountModel}
 
+abbrev pub opcode : ℕ
+opcode = 26
+
 -- the kernel's major is newer: it is told to offer 7
 abbrev pub is_newer : ℕ → Bool
 is_newer major = nat_lt 7 major
