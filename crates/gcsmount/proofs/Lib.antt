@@ -3,3 +3,7 @@ pub mod Completeness
 pub mod FrameLists
 pub mod PieceLaws
 pub mod ServeLaws
+pub mod Results
+pub mod TableLaws
+pub mod SerialLaws
+pub mod OtherRequests

@@ -2,7 +2,7 @@ ghost use Rattle.std.specs.Prelude.{◌≡◌};
 ghost use Rattle.fuse_replies.specs.Replies.{IsSendable, plain};
 ghost use Rattle.mount_spec.specs.Request.Init as init;
 
-use crate::refusals::EPROTO;
+use crate::errno::EPROTO;
 use fuse_replies::Reply;
 
 /// The flags of INIT that the mount grants: ASYNC_READ, BIG_WRITES and PARALLEL_DIROPS.

@@ -2,12 +2,20 @@
 #![tactic(auto)]
 
 mod answer;
+mod attributes;
+mod create;
+mod errno;
 mod init;
+mod lookup;
+mod names;
+mod node_table;
+mod nodes;
 mod refusals;
 mod serial;
 mod serve;
 mod serve_end;
 mod server;
+mod store;
 #[cfg(test)]
 mod tests;
 mod tool;

@@ -1,15 +1,30 @@
-ghost use Rattle.std.specs.Prelude.{◌≡◌};
+ghost use Rattle.std.specs.Prelude.{◌≡◌, Some, None, if◌then◌else◌};
 ghost use Rattle.fuse_requests.specs.Grammar.{plain};
+ghost use Rattle.mount_spec.specs.Errno.{enosys};
+ghost use Rattle.mount_spec.specs.PlainNames as plain_names;
 ghost use Rattle.mount_spec.specs.Rules as rules;
 
+use crate::errno::{EINVAL, ENOSYS};
+use crate::names::is_served;
 use fuse_requests::Request;
+use io_ports::Bytes;
 
-/// Linux errno.h: a body, a name or a number that isn't allowed.
-const EINVAL: u32 = 22;
-/// Linux errno.h: a request that the mount doesn't have.
-const ENOSYS: u32 = 38;
-/// Linux errno.h: no version of the protocol is agreed on.
-pub(crate) const EPROTO: u32 = 71;
+/// Opcodes of fuse.h.
+const LOOKUP: u32 = 1;
+
+const FORGET: u32 = 2;
+
+const STATFS: u32 = 17;
+
+const INIT: u32 = 26;
+
+const CREATE: u32 = 35;
+
+const INTERRUPT: u32 = 36;
+
+const DESTROY: u32 = 38;
+
+const BATCH_FORGET: u32 = 42;
 
 /// Whether the request never gets a reply: FORGET, BATCH_FORGET and INTERRUPT, whatever their bodies.
 pub(crate) fn is_silent(request: &Request) -> bool
@@ -17,7 +32,9 @@ pub(crate) fn is_silent(request: &Request) -> bool
 {
     match request {
         Request::Forget { .. } | Request::BatchForget { .. } | Request::Interrupt => true,
-        Request::Unknown { opcode } => *opcode == 2 || *opcode == 36 || *opcode == 42,
+        Request::Unknown { opcode } => {
+            *opcode == FORGET || *opcode == INTERRUPT || *opcode == BATCH_FORGET
+        },
         _ => false,
     }
 }
@@ -28,7 +45,7 @@ pub(crate) fn is_init(request: &Request) -> bool
 {
     match request {
         Request::Init { .. } => true,
-        Request::Unknown { opcode } => *opcode == 26,
+        Request::Unknown { opcode } => *opcode == INIT,
         _ => false,
     }
 }
@@ -39,16 +56,28 @@ pub(crate) fn refusal(request: &Request) -> Option<u32>
 {
     match request {
         Request::Init { .. } | Request::Statfs | Request::Destroy => None,
-        Request::Unknown { opcode } => Some(unread(*opcode)),
+        Request::Lookup { node, name } | Request::Create { node, name } => name_errno(*node, name),
+        Request::Unknown { opcode } => Some(unread_errno(*opcode)),
         _ => Some(ENOSYS),
     }
 }
 
-fn unread(opcode: u32) -> u32
+// The error of a name that CREATE and LOOKUP don't take.
+fn name_errno(node: u64, name: &Bytes) -> Option<u32>
+    ensures { result ≡ (if plain_names.is_served node name.now then None else Some enosys) }
+{
+    if is_served(node, name.as_slice()) {
+        return None;
+    }
+    Some(ENOSYS)
+}
+
+// The error of a request whose body was not read: a served one is outside the grammar.
+fn unread_errno(opcode: u32) -> u32
     ensures { result ≡ rules.unread opcode }
 {
     match opcode {
-        17 | 26 | 38 => EINVAL,
+        LOOKUP | STATFS | INIT | CREATE | DESTROY => EINVAL,
         _ => ENOSYS,
     }
 }

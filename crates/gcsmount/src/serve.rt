@@ -11,6 +11,7 @@ ghost use Rattle.gcsmount.specs.Serving.{FinishesBy, HasServed, ServesTaken};
 use crate::serial::Serial;
 use crate::serve_end::ServeEnd;
 use crate::server::{end_of, serve_piece};
+use bucket_plain::Plain;
 use fuse_frames::FrameCutter;
 use io_ports::{Failed, NoMemory, Sink, Source};
 use mount_model::Config;
@@ -52,7 +53,9 @@ fn serve_input<R: Source, W: Sink>(
     let Ok(mut buffer) = piece_buffer(alloc) else {
         return ServeEnd::NoMemory;
     };
-    let mut serial = Serial::new(config);
+    let Ok(mut serial) = Serial::new(alloc, config, Plain::new(alloc)) else {
+        return ServeEnd::NoMemory;
+    };
     let mut cutter = FrameCutter::new(alloc);
     let mut taken = 0;
     loop {

@@ -1,3 +1,5 @@
+mod files;
+mod lookups;
 mod streams;
 
 use crate::tool::run_tool;

@@ -4,11 +4,17 @@ use Rattle.std.proofs.lemmas.List.{take_at}
 use Rattle.gcsmount.specs.Ports.{port}
 use Rattle.gcsmount.specs.Serve.{longest_input}
 use Rattle.gcsmount.specs.Serving.{ServesOn, StopsAfter}
-use Rattle.gcsmount.proofs.ServeLaws.{Progress-on, Streams-finished, Streams-nothing, Streams-stopped}
+use Rattle.gcsmount.proofs.ServeLaws.{Progress-on, Streams-finished, Streams-nothing, Streams-read_fault, Streams-stopped}
 use Rattle.gcsmount.proofs.serve.serve_input.Goals as goal
 
 pub returns-in_default-clause-streams : goal.returns-in_default-clause-streams
 returns-in_default-clause-streams g c = Streams-nothing _ _ _
+
+pub returns-in_default-new-clause-streams : goal.returns-in_default-new-clause-streams
+returns-in_default-new-clause-streams g c = Streams-nothing _ _ _
+
+pub returns-in-Err-clause-streams : goal.returns-in-Err-clause-streams
+returns-in-Err-clause-streams g c = Streams-read_fault _ _ _ _ _ _ _ _ c.loop-cutter.invariant.so_far _ c.in-Err.ensures.err c.in-Err.ensures.failed
 
 pub returns-in-Ok-eq0-clause-streams : goal.returns-in-Ok-eq0-clause-streams
 returns-in-Ok-eq0-clause-streams g c =
