@@ -18,6 +18,13 @@ module _ {A E : Type 0} (result : Result A E) where
       by (Ok a) q = tt
       by (Err e) q = then q
 
+  pub OnErr-any : {Q : Type 0} → Q → OnErr result Q
+  OnErr-any {Q} q = by result
+    where
+      by : (r : Result A E) → OnErr r Q
+      by (Ok a) = tt
+      by (Err e) = q
+
   -- it is a success where the case of a failure can't be
   pub IsOk-else : (P : A → Type 0) (Q : E → Type 0) → ((e : E) → ¬ Q e) → MatchResult result P Q → IsOk result
   IsOk-else P Q never = by result

@@ -34,12 +34,14 @@ pub(crate) fn look_up(
     ensures sendable { IfOk result (λ reply. IsSendable (plain_reply reply)) }
     ensures later { store.old.made ≤ store.new.made }
 {
-    let key = dir_prefix(alloc, name.as_str())?;
-    let again = name.copy(alloc)?;
-    let key_again = key.copy(alloc)?;
     match find(alloc, config, store, &name)? {
-        Found::Directory => Ok(Reply::Entry(nodes.show_directory(config, key, key_again))),
+        Found::Directory => {
+            let key = dir_prefix(alloc, name.as_str())?;
+            let again = key.copy(alloc)?;
+            Ok(Reply::Entry(nodes.show_directory(config, key, again)))
+        }
         Found::Object { meta, moment } => {
+            let again = name.copy(alloc)?;
             let entry = nodes.show(config, name, again, meta, moment);
             Ok(Reply::Entry(entry))
         }

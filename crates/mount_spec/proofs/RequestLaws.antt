@@ -29,6 +29,13 @@ Begins-same plan other store [] same begins = tt
 Begins-same plan other store (o ∷ more) same (asked, observed, harmless, rest) =
     (same [] ∙ asked, observed, harmless, Begins-same (λ seen. plan (o ∷ seen)) (λ seen. other (o ∷ seen)) _ more (λ s. same (o ∷ s)) rest)
 
+-- what a plan of harmless operations completes, it begins
+Begins-harmless : (plan : Plan) (store : Store) (seen : List Observation) → ((s : List Observation) (asked : Operation) → plan s ≡ ask asked → IsHarmless asked)
+    → Completes plan store seen → Begins plan store seen
+Begins-harmless plan store [] harmless completes = tt
+Begins-harmless plan store (o ∷ more) harmless (asked, observed, rest) =
+    (asked, observed, harmless [] o.op asked, Begins-harmless (λ seen. plan (o ∷ seen)) (after_operation store o.op) more (λ s. harmless (o ∷ s)) rest)
+
 -- a request that is refused at once is answered by its error, and leaves all as it was
 pub Performs-refused : (config : Config) (state : RunState) (request : Request) (errno : ℕ)
     → early state.mount request ≡ Some errno → Performs config state request (Error errno) state
@@ -129,4 +136,15 @@ StopsShort-after plan store o between store' asks moment answer harmless is left
   begins = (asks, record { moment = moment; answer = answer }, harmless, tt);
   asks = λ none. asks_none o.op (sym asks ∙ none);
   left = left ∙ is;
+}
+
+-- memory was refused after all operations, which are harmless
+pub StopsShort-observed : {A : Type 0} (plan : Plan) (tells : List Observation → A) (store : Store) (told : A) (store' : Store) (op : Operation)
+    → ((seen : List Observation) (asked : Operation) → plan seen ≡ ask asked → IsHarmless asked)
+    → plan [] ≡ ask op → Observes plan tells store told store' → StopsShort plan store store'
+StopsShort-observed plan tells store told store' op harmless asks observed = record {
+  seen = observed.seen;
+  begins = Begins-harmless plan store observed.seen harmless observed.completes;
+  asks = λ none. asks_none op (sym asks ∙ none);
+  left = observed.left;
 }
