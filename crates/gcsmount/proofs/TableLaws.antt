@@ -1,12 +1,9 @@
 -- What holds of a table of nodes after one change.
-use Rattle.std.proofs.Common.{◌≡◌, ◌≤◌, ◌⊎◌, inl, inr, ℕ, Bool, true, false, cond, Option, Some, None, refl, subst, nat_cmp, nat_eq, arith}
-use Rattle.std.specs.Prelude.{max}
+use Rattle.std.proofs.Common.{◌≡◌, ◌≤◌, ◌⊎◌, inl, inr, ℕ, Bool, true, false, Option, Some, None, subst, nat_cmp, arith}
 use Rattle.std.specs.FinMap as fin
 use Rattle.std.specs.Option.{option_map_or}
-use Rattle.bucket_api.specs.Metadata.{Metadata}
 use Rattle.mount_spec.specs.MountModel.{Nodes}
 use Rattle.mount_spec.specs.Request.Forget.{left_without}
-use Rattle.mount_spec.specs.Showing.{newer, refreshed}
 use Rattle.mount_spec.specs.declared.node.Node.{Node}
 use Rattle.spare_maps.proofs.FinMaps.{number_put, number_taken}
 
@@ -33,11 +30,3 @@ module _ (nodes : Nodes) (before after : ℕ) (later : before ≤ after) (counts
 pub AreAtMost-empty : (most : ℕ) → AreAtMost fin.empty most
 AreAtMost-empty most q node found =
     absurd (let none : fin.get {X = Node} {R = nat_cmp} fin.empty q ≡ None = fin.get-empty nat_cmp q in let some : fin.get {X = Node} {R = nat_cmp} fin.empty q ≡ Some node = found in cc)
-
--- what was shown again keeps its look-ups
-pub lookups-refreshed : (meta : Metadata) (moment : ℕ) (node : Node) → (refreshed meta moment node).lookups ≡ node.lookups
-lookups-refreshed meta moment node = by (nat_eq node.source meta.generation)
-  where
-    by : (same : Bool) → (cond same (record node { known = max node.known moment; kept = newer node.kept meta }) node).lookups ≡ node.lookups
-    by true = refl
-    by false = refl

@@ -1,8 +1,9 @@
-ghost use Rattle.std.specs.Prelude.{◌≡◌, ◌^◌, ℕ, None, true, IfOk, OnErr};
+ghost use Rattle.std.specs.Prelude.{◌≡◌, ◌^◌, ℕ, None, true, IfOk, OnOk, OnErr};
 ghost use Rattle.bucket_api.specs.BucketState.{IsBucket, IsWithin};
 ghost use Rattle.fuse_replies.specs.Replies.{IsSendable, plain as plain_reply};
 ghost use Rattle.fuse_requests.specs.Grammar.{plain};
 ghost use Rattle.fuse_requests.specs.declared.request.Request.TheVariants.{Create, Forget, Init, Lookup};
+ghost use Rattle.mount_spec.specs.Counts.{CountsDecide, NumbersRise};
 ghost use Rattle.mount_spec.specs.OneThread.{Performs, first_state};
 ghost use Rattle.mount_spec.specs.PlainNames.{is_plain_name};
 ghost use Rattle.mount_spec.specs.Rules as rules;
@@ -59,6 +60,10 @@ impl Serial {
         requires within { IsWithin (2 ^ 62) bucket }
         ensures config { IfOk result (λ serial. serial.config ≡ config.now) }
         ensures state { IfOk result (λ serial. serial.state ≡ first_state bucket) }
+
+        // What any list of calls then comes to: a node is live while the kernel holds look-ups of it, and numbers are given once.
+        ensures counts { OnOk result CountsDecide }
+        ensures numbers { OnOk result NumbersRise }
     {
         let nodes = NodeTable::new(alloc)?;
         Ok(Serial {

@@ -5,3 +5,5 @@ pub mod LookupLaws
 pub mod CreateLaws
 pub mod RuleLaws
 pub mod MemoryLaws
+pub mod NumberLaws
+pub mod CountLaws

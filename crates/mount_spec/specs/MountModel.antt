@@ -1,5 +1,5 @@
 -- What a mount holds, as plain data.
-use Rattle.std.specs.Prelude.{ℕ, Bool, false, [], None}
+use Rattle.std.specs.Prelude.{◌≡◌, ℕ, ◌<◌, ◌≤◌, Bool, false, [], Some, None}
 use Rattle.std.specs.FinMap as fin
 use Rattle.std.specs.Ordering.{nat_cmp}
 use Rattle.bucket_api.specs.Metadata.{text_cmp}
@@ -45,3 +45,14 @@ first_table = record { nodes = fin.insert fin.empty 1 root; current = fin.empty;
 -- a mount before its first request
 abbrev pub first_mount : MountModel
 first_mount = record { table = first_table; handles = fin.empty; next_handle = 1; tick = 0; negotiated = false }
+
+-- every node and every open handle has a number that was given before
+pub record IsNumbered (mount : MountModel) : Type 0 where
+  pub nodes : (number : ℕ) (node : Node) → fin.get mount.table.nodes number ≡ Some node → number < mount.table.next
+  pub handles : (fh : ℕ) (handle : Opened) → fin.get mount.handles fh ≡ Some handle → fh < mount.next_handle
+
+-- the mount is numbered, and no number below the next ones of an earlier one is given again
+pub record GivesLater (earlier mount : MountModel) : Type 0 where
+  pub numbered : IsNumbered mount
+  pub nodes : earlier.table.next ≤ mount.table.next
+  pub handles : earlier.next_handle ≤ mount.next_handle

@@ -1,6 +1,7 @@
 -- A node that is there has one more look-up.
 use Rattle.std.proofs.Common.{◌+◌, ap, ◌∙◌, arith}
-use Rattle.gcsmount.proofs.TableLaws.{AreAtMost-put, lookups-refreshed}
+use Rattle.mount_spec.proofs.CountLaws.{lookups-refreshed}
+use Rattle.gcsmount.proofs.TableLaws.{AreAtMost-put}
 use Rattle.gcsmount.proofs.node_table.NodeTable.show.Goals as goal
 
 pub invariant_of-self : goal.invariant_of-self
