@@ -1,8 +1,10 @@
 //! What no clause says of replies: frames from outside, and that each is written and read with ample memory.
 ghost use Rattle.fuse_replies.specs.Replies.{without_spare, IsSendable};
 
-use crate::{AttrOut, Dirent, EntryOut, Reply, ReplyFault, ReplyKind, read_reply, write_reply};
-use io_ports::{Bytes, Row, Text};
+use crate::{
+    AttrOut, Dirent, EntryOut, Reply, ReplyFault, ReplyKind, dirent_len, read_reply, write_reply,
+};
+use io_ports::{Bytes, NoMemory, Row, Text};
 use std::alloc::Global;
 use std::process::Abort;
 use std::test::Fail;
@@ -93,7 +95,7 @@ const BYTES: [u8; 19] = [
 /// A head alone, unique 6.
 const BARE: [u8; 16] = [16, 0, 0, 0, 0, 0, 0, 0, 6, 0, 0, 0, 0, 0, 0, 0];
 
-// The reply has this frame, and is read back from it.
+/// The reply has this frame, and is read back from it.
 fn both_ways(
     rt: &impl Abort,
     alloc: Global,
@@ -215,7 +217,7 @@ fn a_dirent_ends_at_a_multiple_of_8(rt: HostRuntime) -> Result<(), Fail> {
     both_ways(&rt, rt.alloc(), ReplyKind::Dirents, 4, &listed, &LISTED)
 }
 
-// A frame with another byte at a place is refused as a reply of this kind.
+/// A frame with another byte at a place is refused as a reply of this kind.
 fn refused_with(
     rt: &impl Abort,
     alloc: Global,
@@ -247,4 +249,42 @@ fn another_value_of_a_fixed_field_is_malformed(rt: HostRuntime) -> Result<(), Fa
     refused_with(&rt, rt.alloc(), ReplyKind::Attr, &ATTR, 56, 9)?;
     refused_with(&rt, rt.alloc(), ReplyKind::Dirents, &LISTED, 16, 9)?;
     refused_with(&rt, rt.alloc(), ReplyKind::Dirents, &LISTED, 45, 9)
+}
+
+/// Many equal bytes.
+fn many(alloc: Global, count: usize) -> Result<Bytes, NoMemory> {
+    let mut bytes = Vec::with_capacity(alloc, count)?;
+    for _ in 0..count {
+        bytes.push(b'n')?;
+    }
+    Ok(Bytes::from_vec(bytes))
+}
+
+/// How many bytes the frame of a payload of so many has, and how many are read back from it.
+fn lens_of(alloc: Global, count: usize) -> Result<(usize, usize), NoMemory>
+    requires { count ≤ 1000000 }
+{
+    let bytes = many(alloc, count)?;
+    if bytes.as_slice().len() > 1_000_000 {
+        return Ok((0, 0));
+    }
+    let frame = write_reply(alloc, 1, &Reply::Content(bytes))?;
+    match read_reply(alloc, ReplyKind::Content, frame.as_slice()) {
+        Ok((_, Reply::Content(read))) => Ok((frame.as_slice().len(), read.as_slice().len())),
+        _ => Ok((frame.as_slice().len(), 0)),
+    }
+}
+
+#[test]
+fn the_longest_read_is_answered_whole(rt: HostRuntime) -> Result<(), Fail> {
+    assert_eq!(rt; lens_of(rt.alloc(), 131_072)?, (131_088, 131_072));
+    assert_eq!(rt; lens_of(rt.alloc(), 1_000_000)?, (1_000_016, 1_000_000));
+    Ok(())
+}
+
+#[test]
+fn an_entry_of_a_directory_fills_whole_words(rt: HostRuntime) {
+    for (name, len) in [("", 24), ("a", 32), ("12345678", 32), ("123456789", 40)] {
+        assert_eq!(rt; dirent_len(name), len, "{name}");
+    }
 }

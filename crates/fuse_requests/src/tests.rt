@@ -146,13 +146,14 @@ fn both_ways(
     is_read(rt, alloc, request, &frame)
 }
 
-/// Whether a small request can be written.
+/// Whether a request can be written whose names and content aren't longer than a kernel's.
 fn is_writable(request: &Request) -> bool
     ensures { IsTrue result → IsWritable request.now }
 {
     has_names(request) && small(request)
 }
 
+/// Whether it has names, and an opcode, that can be written.
 fn has_names(request: &Request) -> bool
     ensures { IsTrue result → HasNames request.now }
 {
@@ -173,14 +174,16 @@ fn has_names(request: &Request) -> bool
     }
 }
 
+/// Whether the bytes hold no zero.
 fn is_name(name: &Bytes) -> bool
     ensures { IsTrue result → IsName name.now }
 {
     !name.as_slice().contains(&0)
 }
 
+/// Whether its names and content aren't longer than a kernel's.
 fn small(request: &Request) -> bool
-    ensures { IsTrue result → length (spelling request.now).tail ≤ 1000 }
+    ensures { IsTrue result → length (spelling request.now).tail ≤ 135040 }
 {
     match request {
         Request::Lookup { name, .. }
@@ -188,15 +191,15 @@ fn small(request: &Request) -> bool
         | Request::Mkdir { name, .. }
         | Request::Unlink { name, .. }
         | Request::Rmdir { name, .. }
-        | Request::Create { name, .. } => name.as_slice().len() < 100,
+        | Request::Create { name, .. } => name.as_slice().len() < 5_000,
         Request::Symlink { name, target, .. } => {
-            name.as_slice().len() < 100 && target.as_slice().len() < 100
+            name.as_slice().len() < 5_000 && target.as_slice().len() < 5_000
         }
         Request::Rename { name, newname, .. } | Request::Rename2 { name, newname, .. } => {
-            name.as_slice().len() < 100 && newname.as_slice().len() < 100
+            name.as_slice().len() < 5_000 && newname.as_slice().len() < 5_000
         }
-        Request::Write { content, .. } => content.as_slice().len() < 100,
-        Request::BatchForget { pairs } => pairs.len() < 10,
+        Request::Write { content, .. } => content.as_slice().len() <= 131_072,
+        Request::BatchForget { pairs } => pairs.len() <= 8_192,
         _ => true,
     }
 }
@@ -632,4 +635,53 @@ fn opcodes_that_are_not_served_are_unknown(rt: HostRuntime) -> Result<(), Fail> 
         assert_eq!(rt; request.as_str(), unknown.as_str());
     }
     Ok(())
+}
+
+/// Many equal bytes.
+fn many(alloc: Global, count: usize) -> Result<Bytes, AllocError> {
+    let mut bytes = Vec::with_capacity(alloc, count)?;
+    for _ in 0..count {
+        bytes.push_reserved(b'n');
+    }
+    Ok(Bytes::from_vec(bytes))
+}
+
+/// That a request is read back from the frame that is written of it.
+fn read_back(rt: &impl Abort, alloc: Global, request: &Request) -> Result<(), Fail> {
+    assert!(rt; is_writable(request));
+    let frame = write_request(alloc, UNIQUE, request)?;
+    is_read(rt, alloc, request, frame.as_slice())
+}
+
+#[test]
+fn the_longest_names_are_read_back(rt: HostRuntime) -> Result<(), Fail> {
+    let alloc = rt.alloc();
+    let name = many(alloc, 255)?;
+    read_back(&rt, alloc, &Request::Lookup { node: 1, name })?;
+    let (name, target) = (many(alloc, 255)?, many(alloc, 4_095)?);
+    let node = u64::MAX;
+    read_back(&rt, alloc, &Request::Symlink { node, name, target })
+}
+
+#[test]
+fn the_longest_write_is_read_back(rt: HostRuntime) -> Result<(), Fail> {
+    let content = many(rt.alloc(), 131_072)?;
+    let (node, fh, first) = (1, u64::MAX, u64::MAX);
+    let write = Request::Write {
+        node,
+        fh,
+        first,
+        content,
+    };
+    read_back(&rt, rt.alloc(), &write)
+}
+
+#[test]
+fn the_most_pairs_are_read_back(rt: HostRuntime) -> Result<(), Fail> {
+    let mut pairs = Vec::new(rt.alloc());
+    for node in 0..8_192 {
+        pairs.push(Forgotten { node, count: 1 })?;
+    }
+    let pairs = Row::from_vec(pairs);
+    read_back(&rt, rt.alloc(), &Request::BatchForget { pairs })
 }

@@ -1,1 +1,2 @@
+-- Laws of streams.
 pub mod StreamLemmas

@@ -71,7 +71,8 @@ module _ {X : Type 0} (by : X → ℕ) where
   longer_by true g h xs ys book is a b = let t = later_longer g h xs ys book (let l = ltb-true (length xs) (length ys) is in omega arith) a b in (t.0, GoesOnBy-refl h ys, t.1)
   longer_by false g h xs ys book is a b = let t = later_longer h g ys xs book (ltb-false (length xs) (length ys) is) b a in (GoesOnBy-refl g xs, t.0, together_comm h g xs book t.1)
 
-  pub longer_goes_on : (g h : Numbers) (xs ys book : List X) → GoesOnBy by g xs book → GoesOnBy by h ys book → GoesOnBy by g xs (longer xs ys) × GoesOnBy by h ys (longer xs ys) × GoesOnBy by (together g h) (longer xs ys) book
+  pub longer_goes_on : (g h : Numbers) (xs ys book : List X) → GoesOnBy by g xs book → GoesOnBy by h ys book
+      → GoesOnBy by g xs (longer xs ys) × GoesOnBy by h ys (longer xs ys) × GoesOnBy by (together g h) (longer xs ys) book
   longer_goes_on g h xs ys book = longer_by (nat_lt (length xs) (length ys)) g h xs ys book refl
 
   -- who holds all numbers has seen the whole book

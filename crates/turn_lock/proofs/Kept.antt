@@ -297,7 +297,8 @@ module _ {S E H : Type 0} (entries : S → List E) (home : S → H) (may_make : 
       (same_place s.views id v w r.book r.turn r.turn s.homes at same (λ e. e) (λ h. h) r.place) (λ j u _ e. r.knows j u e) known fewer_held r.apart
 
   -- Glancing: a load of the length shows the book
-  pub glances : (slots id : ℕ) (v : Known S E) (c : List (ℕ × Option S)) (a b : ℕ) → Allows (Rule entries home may_make first) slots id (v, c) 1 (λ n. n) (glanced may_make (step slots 1 a b none) (v, c))
+  pub glances : (slots id : ℕ) (v : Known S E) (c : List (ℕ × Option S)) (a b : ℕ)
+      → Allows (Rule entries home may_make first) slots id (v, c) 1 (λ n. n) (glanced may_make (step slots 1 a b none) (v, c))
   glances slots id v c a b s r len at low =
       let w : Known S E = record v { seen = r.book } in
       let kn = r.knows id v at in (
@@ -309,7 +310,8 @@ module _ {S E H : Type 0} (entries : S → List E) (home : S → H) (may_make : 
       )
 
   -- Settling: a load after which the seat has the longer of two lists, and the numbers of both
-  pub settles : (slots id : ℕ) (v : Known S E) (c : List (ℕ × Option S)) (a b : ℕ) → v.entered ≡ false → Allows (Rule entries home may_make first) slots id (v, c) 1 (λ n. n) (settled (step slots 1 a b none) (v, c))
+  pub settles : (slots id : ℕ) (v : Known S E) (c : List (ℕ × Option S)) (a b : ℕ) → v.entered ≡ false
+      → Allows (Rule entries home may_make first) slots id (v, c) 1 (λ n. n) (settled (step slots 1 a b none) (v, c))
   settles slots id v c a b out s r len at low =
       let w : Known S E = settling v in
       let kn = r.knows id v at in
@@ -357,7 +359,8 @@ module _ {S E H : Type 0} (entries : S → List E) (home : S → H) (may_make : 
       }
 
   -- Meeting: the other seat's list and numbers go to the seat
-  pub meets : (id : ℕ) (v : Known S E) (other : ℕ) (w : Known S E) → v.met_held ≡ Only [] → w.met_held ≡ Only [] → w.entered ≡ false → Joins (Rule entries home may_make first) id v other w (meeting v w) spent
+  pub meets : (id : ℕ) (v : Known S E) (other : ℕ) (w : Known S E) → v.met_held ≡ Only [] → w.met_held ≡ Only [] → w.entered ≡ false
+      → Joins (Rule entries home may_make first) id v other w (meeting v w) spent
   meets id v other w quiet quiet' out s r at ne there' =
       let both : Known S E = meeting v w in
       let there : get_elem? s.views other ≡ some w = sym (set_else s.views id other both ne) ∙ there' in
@@ -398,7 +401,8 @@ module _ {S E H : Type 0} (entries : S → List E) (home : S → H) (may_make : 
     apart = λ n i j v w ei ej _ _. only_index (first_known first) i v ei ∙ sym (only_index (first_known first) j w ej);
   }
 
-  state_at_end : (id : ℕ) (v : Known S E) (x : S) (words : List ℕ) (slots : List (Option S)) → HasAll v.held → v.entered ≡ false → v.first ≡ Some x → Final (Seen (Rule entries home may_make first) id v) words slots
+  state_at_end : (id : ℕ) (v : Known S E) (x : S) (words : List ℕ) (slots : List (Option S)) → HasAll v.held → v.entered ≡ false → v.first ≡ Some x
+      → Final (Seen (Rule entries home may_make first) id v) words slots
       → (state : S) × (get_elem? slots 0 ≡ some (Some state)) × StandsFor entries home may_make x v.seen state
   state_at_end id v x words slots all out is f =
       let r = f.1.0 in
@@ -418,7 +422,8 @@ module _ {S E H : Type 0} (entries : S → List E) (home : S → H) (may_make : 
       r.place
 
   -- The end: who holds all numbers and is not entered finds the state at home, and it stands for all that the seat has seen
-  pub ends : (id : ℕ) (v : Known S E) (x : S) (words : List ℕ) (slots : List (Option S)) (found : Option S) → HasAll v.held → v.entered ≡ false → v.first ≡ Some x → Final (Seen (Rule entries home may_make first) id v) words slots
+  pub ends : (id : ℕ) (v : Known S E) (x : S) (words : List ℕ) (slots : List (Option S)) (found : Option S) → HasAll v.held → v.entered ≡ false
+      → v.first ≡ Some x → Final (Seen (Rule entries home may_make first) id v) words slots
       → get_elem? slots 0 ≡ some found → (is_some found ≡ true) × ((state : S) → found ≡ Some state → StandsFor entries home may_make x v.seen state)
   ends id v x words slots found all out is f at =
       let last = state_at_end id v x words slots all out is f in

@@ -53,7 +53,8 @@ module _ (S E : RattleType) (g : booked.Ghosts S.Denot E.Denot) (s : IsSend S) w
   slots = lease_shared (option_row S) heap_row heap_ghosts heap.send heap.frees
 
   inside_shared : IsSync (inside.the_row S E g)
-  inside_shared = recorded_sync (inside.the_field S E g).row _ _ (inside.the_type S E g).to_one (struct_sync (declared.shape (inside.the_type S E g)) (struct_sync (declared.shape (table_type (option_row S) (known_row S E) (snapshot_row S) rule_row heap_row (rule.ghosts S E g rule.no_dict rule.no_dict) heap_ghosts)) (board, (search sendable, (search sendable, (words, (slots, (heap.sync, tt)))))), tt))
+  inside_shared =
+      recorded_sync (inside.the_field S E g).row _ _ (inside.the_type S E g).to_one (struct_sync (declared.shape (inside.the_type S E g)) (struct_sync (declared.shape (table_type (option_row S) (known_row S E) (snapshot_row S) rule_row heap_row (rule.ghosts S E g rule.no_dict rule.no_dict) heap_ghosts)) (board, (search sendable, (search sendable, (words, (slots, (heap.sync, tt)))))), tt))
 
   pub turn_shared : IsSync (turn_row S E g)
   turn_shared = search (sendable, inside_shared) depth 30

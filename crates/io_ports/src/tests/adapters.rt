@@ -63,7 +63,7 @@ impl Read for Tap {
 }
 
 /// Many bytes.
-fn bytes_of(alloc: Global, count: usize) -> Result<Vec<u8>, NoMemory> {
+pub(super) fn bytes_of(alloc: Global, count: usize) -> Result<Vec<u8>, NoMemory> {
     let mut bytes = Vec::with_capacity(alloc, count)?;
     for _ in 0..count {
         bytes.push(b'.')?;

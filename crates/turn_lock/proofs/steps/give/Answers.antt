@@ -1,3 +1,4 @@
+-- A split keeps the rule.
 use Rattle.std.proofs.Common.{arith, subst, sym, ◌≡◌, true}
 use Rattle.lane_spec.specs.Numbers.{has}
 use Rattle.turn_lock.proofs.Kept.{splits}

@@ -1,3 +1,4 @@
+-- A meet keeps the rule, and the look after it settles which list is longer.
 use Rattle.std.proofs.Common.{rules, arith}
 use Rattle.turn_lock.proofs.Kept.{meets, settles}
 use Rattle.turn_lock.proofs.steps.take_in.Goals as goal

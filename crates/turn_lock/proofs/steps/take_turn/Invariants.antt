@@ -1,3 +1,4 @@
+-- A try that failed leaves the place as it was.
 use Rattle.std.proofs.Common.{◌≡◌}
 use Rattle.turn_lock.proofs.steps.take_turn.Given as goal
 

@@ -1,3 +1,4 @@
+-- A try takes the turn where it is free, and else changes nothing.
 use Rattle.std.proofs.Common.{arith, eqb}
 use prog.Atomic.{either}
 use Rattle.turn_lock.proofs.Kept.{takes_turn, taken_above}

@@ -1,3 +1,4 @@
+-- An entry that may be made next keeps the rule.
 use Rattle.std.proofs.Common.{arith}
 use Rattle.turn_lock.proofs.Kept.{appends}
 use Rattle.turn_lock.proofs.steps.write_next.Goals as goal

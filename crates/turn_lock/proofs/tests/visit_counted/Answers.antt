@@ -1,3 +1,4 @@
+-- The state stands for the book with the entry made.
 use Rattle.std.proofs.Common.{rules, refl}
 use Rattle.turn_lock.proofs.Standing.{stands_after_append}
 use Rattle.turn_lock.proofs.tests.visit_counted.Goals as goal

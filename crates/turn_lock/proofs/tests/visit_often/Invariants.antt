@@ -1,3 +1,4 @@
+-- A seat is as before but for what it has seen and made.
 use Rattle.std.proofs.Common.{◌≡◌}
 use Rattle.turn_lock.proofs.tests.visit_often.Given as goal
 

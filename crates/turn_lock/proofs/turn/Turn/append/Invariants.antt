@@ -1,3 +1,4 @@
+-- Which entry an append makes.
 use Rattle.std.proofs.Common.{length, slice_get}
 use Rattle.turn_lock.proofs.turn.Turn.append.Given as goal
 

@@ -1,3 +1,4 @@
+-- Who holds all numbers has seen the whole book, for which the state stands.
 use Rattle.std.proofs.Common.{refl, sym, ap, ◌∙◌, subst}
 use Rattle.lane_spec.specs.Numbers.{HasAll}
 use Rattle.turn_lock.proofs.Shown.{present-is, stands_as}

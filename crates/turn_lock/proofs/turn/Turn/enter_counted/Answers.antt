@@ -1,3 +1,4 @@
+-- Who took the turn takes the state, which stands for the book.
 use Rattle.std.proofs.Common.{rules, Some, sym, ap, ◌∙◌}
 use Rattle.turn_lock.proofs.Shown.{present-is, before_rest, same_front, stands_as}
 use Rattle.turn_lock.proofs.turn.Turn.enter_counted.Goals as goal

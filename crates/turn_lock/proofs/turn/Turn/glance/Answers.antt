@@ -1,3 +1,4 @@
+-- A glance keeps the rule, and shows the book.
 use Rattle.std.proofs.Common.{rules, arith}
 use Rattle.turn_lock.proofs.Kept.{glances}
 use Rattle.turn_lock.proofs.turn.Turn.glance.Goals as goal

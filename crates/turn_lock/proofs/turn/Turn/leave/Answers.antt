@@ -1,3 +1,4 @@
+-- The state goes back where it stands for what was seen.
 use Rattle.std.proofs.Common.{rules, arith, refl, Some, sym, ap, ◌∙◌}
 use Rattle.turn_lock.specs.Seats.{slots_out}
 use Rattle.turn_lock.proofs.Shown.{present-is, stands_as}

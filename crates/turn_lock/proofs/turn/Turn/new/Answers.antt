@@ -1,3 +1,4 @@
+-- The first seat is at a table that keeps the rule.
 use Rattle.std.proofs.Common.{◌≡◌, [], ◌∷◌, ◌++◌, Some, subst, sym, ap, ◌∙◌}
 use Rattle.atomic_table.specs.Table.{opening}
 use Rattle.turn_lock.specs.Rule.{Rule, first_known}

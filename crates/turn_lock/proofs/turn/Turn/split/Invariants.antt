@@ -1,3 +1,4 @@
+-- Which number a split gives away.
 use Rattle.turn_lock.proofs.turn.Turn.split.Given as goal
 
 abbrev pub ghosts-give : goal.ghosts-give
