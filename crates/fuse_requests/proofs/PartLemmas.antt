@@ -1,5 +1,5 @@
 -- How a fault of the first part is one of the whole.
-use Rattle.std.proofs.Common.{◌≡◌, ap, Result, Ok, Err}
+use Rattle.std.proofs.Common.{ap, Result, Ok, Err}
 use Rattle.fuse_requests.specs.Parts.{◌>>=◌, IsReadAs, IsFaultOf, always, never}
 use Rattle.fuse_requests.specs.declared.fault.BodyFault.{BodyFault}
 use Rattle.fuse_requests.specs.declared.fault.BodyFault.TheVariants.{NoMemory, Short, NoZeroByte, LongTail, BadCount}

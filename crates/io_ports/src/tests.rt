@@ -15,7 +15,13 @@ fn wrappers_keep_what_they_are_given(rt: HostRuntime) -> Result<(), Fail> {
         b"\xffab\x00".as_slice()
     );
     let long = adapters::bytes_of(alloc, 70_000)?;
-    assert_eq!(rt; Bytes::of(alloc, long.as_slice())?.copy(alloc)?.as_slice().len(), 70_000);
+    assert_eq!(rt;
+        Bytes::of(alloc, long.as_slice())?
+            .copy(alloc)?
+            .as_slice()
+            .len(),
+        70_000
+    );
     let text = Text::of(alloc, "grün")?;
     assert_eq!(rt; text.copy(alloc)?.as_str(), "grün");
     assert_eq!(rt; Text::from_string(text.into_string()).as_str(), "grün");

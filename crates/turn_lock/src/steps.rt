@@ -54,11 +54,7 @@ fn try_turn<S: Booked>(board: &Board<S>, place: &mut Place<S>, about_to_sleep: b
 
 /// Waits for the turn: spins for a little, then yields, then sleeps until a thread leaves. It answers how many tries it
 /// took, which is few, however long it slept.
-pub(crate) fn take_turn<S: Booked, T: Wait>(
-    rt: &T,
-    board: &Board<S>,
-    place: &mut Place<S>,
-) -> u64
+pub(crate) fn take_turn<S: Booked, T: Wait>(rt: &T, board: &Board<S>, place: &mut Place<S>) -> u64
     requires board { (place.old.table_id ≡ board.now.table_id) × (board.now.table_id.words ≡ 2) }
     requires own { has place.old.me.0.held place.old.me.0.number ≡ true }
     ensures kept { (place.new.table_id ≡ place.old.table_id) × (place.new.id ≡ place.old.id) }

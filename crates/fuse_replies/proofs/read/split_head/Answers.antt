@@ -1,5 +1,5 @@
 -- A frame begins with the head that is written from its fields.
-use Rattle.std.proofs.Common.{◌≡◌, ◌∙◌, ◌+◌, None, ap, length, arith}
+use Rattle.std.proofs.Common.{◌+◌, None, ap, length, arith}
 use Rattle.std.proofs.lemmas.Bool.Decides.{Decides-eqb}
 use Rattle.std.proofs.lemmas.Slice.Eq.{strip_prefix_is}
 use Rattle.fuse_head.specs.declared.out_head.OutHead.{OutHead}
