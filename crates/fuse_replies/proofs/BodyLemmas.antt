@@ -23,7 +23,8 @@ pub record Carries {A : Type 0} (kind : ReplyKind) (make : A → Reply) (text : 
   pub wrap : (x : A) (bytes : List ℕ) → fits x → bytes ≡ text x → IsBody kind (without_spare (make x)) bytes
   pub unwrap : (reply : Reply) (bytes : List ℕ) → IsBody kind reply bytes → (x : A) × (without_spare reply ≡ without_spare (make x)) × fits x × (bytes ≡ text x)
 
-pub reads_value : {A : Type 0} (kind : ReplyKind) (make : A → Reply) (text : A → List ℕ) (fits : A → Type 0) → Carries kind make text fits → (bytes : List ℕ) (read : Option A) (x : A) → Reads text fits bytes read → read ≡ Some x → ReadsBody kind bytes (Ok (make x))
+pub reads_value : {A : Type 0} (kind : ReplyKind) (make : A → Reply) (text : A → List ℕ) (fits : A → Type 0) → Carries kind make text fits
+    → (bytes : List ℕ) (read : Option A) (x : A) → Reads text fits bytes read → read ≡ Some x → ReadsBody kind bytes (Ok (make x))
 reads_value {A} kind make text fits carries bytes read x reads is =
     let at : Reads text fits bytes (Some x) = subst (λ (o : Option A). Reads text fits bytes o) is reads in
     record {
@@ -35,7 +36,8 @@ reads_value {A} kind make text fits carries bytes read x reads is =
           ap (λ (y : A). without_spare (make y)) x-is ∙ sym of.1;
     }
 
-pub reads_nothing : {A : Type 0} (kind : ReplyKind) (make : A → Reply) (text : A → List ℕ) (fits : A → Type 0) → Carries kind make text fits → (bytes : List ℕ) (read : Option A) (fault : ReplyFault) → Reads text fits bytes read → read ≡ None → ReadsBody kind bytes (Err fault)
+pub reads_nothing : {A : Type 0} (kind : ReplyKind) (make : A → Reply) (text : A → List ℕ) (fits : A → Type 0) → Carries kind make text fits
+    → (bytes : List ℕ) (read : Option A) (fault : ReplyFault) → Reads text fits bytes read → read ≡ None → ReadsBody kind bytes (Err fault)
 reads_nothing {A} kind make text fits carries bytes read fault reads is =
     let at : Reads text fits bytes None = subst (λ (o : Option A). Reads text fits bytes o) is reads in
     record {
@@ -44,7 +46,8 @@ reads_nothing {A} kind make text fits carries bytes read fault reads is =
     }
 
 -- a reply whose body is always the same
-pub reads_fixed : (kind : ReplyKind) (reply : Reply) (text : List ℕ) → ((bytes : List ℕ) → bytes ≡ text → IsBody kind (without_spare reply) bytes) → ((other : Reply) (bytes : List ℕ) → IsBody kind other bytes → (without_spare other ≡ without_spare reply) × (bytes ≡ text))
+pub reads_fixed : (kind : ReplyKind) (reply : Reply) (text : List ℕ) → ((bytes : List ℕ) → bytes ≡ text → IsBody kind (without_spare reply) bytes)
+    → ((other : Reply) (bytes : List ℕ) → IsBody kind other bytes → (without_spare other ≡ without_spare reply) × (bytes ≡ text))
     → (bytes : List ℕ) (is : Bool) → (IsTrue is → bytes ≡ text) → (bytes ≡ text → IsTrue is) → ReadsBody kind bytes (cond is (Ok reply) (Err faults.Malformed))
 reads_fixed kind reply text wrap unwrap bytes true if_is all = record {
   found = wrap bytes (if_is refl);
@@ -154,7 +157,8 @@ target_carries = record {
 }
 
 -- bytes that are taken as they are
-pub reads_bytes : (kind : ReplyKind) (make : List ℕ → Reply) → Carries kind make (λ bytes. bytes) (λ bytes. 16 + length bytes < 2 ^ 32) → (body bytes : List ℕ) → 16 + length body < 2 ^ 32 → bytes ≡ body → ReadsBody kind body (Ok (make bytes))
+pub reads_bytes : (kind : ReplyKind) (make : List ℕ → Reply) → Carries kind make (λ bytes. bytes) (λ bytes. 16 + length bytes < 2 ^ 32)
+    → (body bytes : List ℕ) → 16 + length body < 2 ^ 32 → bytes ≡ body → ReadsBody kind body (Ok (make bytes))
 reads_bytes kind make carries body bytes fits is =
     reads_value kind make (λ xs. xs) (λ xs. 16 + length xs < 2 ^ 32) carries body (Some bytes) bytes
     (record { found = (sym is, omega (arith, fits, ap length is)); again = λ xs xs_fits xs-is. ap Some (is ∙ xs-is) }) refl
@@ -214,7 +218,8 @@ reads_waits bytes is = record {
   ];
 }
 
-pub reads_numbers : (bytes : List ℕ) (read : Option (ℕ × ℕ)) (x : ℕ × ℕ) → bytes ≢ waits_text → Reads numbers_text AreNumbers bytes read → read ≡ Some x → ReadsBody kinds.InitDone bytes (Ok (InitDone x.0 x.1 false))
+pub reads_numbers : (bytes : List ℕ) (read : Option (ℕ × ℕ)) (x : ℕ × ℕ) → bytes ≢ waits_text → Reads numbers_text AreNumbers bytes read
+    → read ≡ Some x → ReadsBody kinds.InitDone bytes (Ok (InitDone x.0 x.1 false))
 unfolding body_of
 reads_numbers bytes read x other reads is =
     let at : Reads numbers_text AreNumbers bytes (Some x) = subst (λ (o : Option (ℕ × ℕ)). Reads numbers_text AreNumbers bytes o) is reads in
@@ -226,7 +231,8 @@ reads_numbers bytes read x other reads is =
       ];
     }
 
-pub reads_no_init : (bytes : List ℕ) (read : Option (ℕ × ℕ)) (fault : ReplyFault) → bytes ≢ waits_text → Reads numbers_text AreNumbers bytes read → read ≡ None → ReadsBody kinds.InitDone bytes (Err fault)
+pub reads_no_init : (bytes : List ℕ) (read : Option (ℕ × ℕ)) (fault : ReplyFault) → bytes ≢ waits_text → Reads numbers_text AreNumbers bytes read
+    → read ≡ None → ReadsBody kinds.InitDone bytes (Err fault)
 reads_no_init bytes read fault other reads is =
     let at : Reads numbers_text AreNumbers bytes None = subst (λ (o : Option (ℕ × ℕ)). Reads numbers_text AreNumbers bytes o) is reads in
     record {
@@ -248,7 +254,8 @@ dirents_unwrap (Error errno) bytes body = absurd (omega (arith, body.reply_fits.
 dirents_unwrap Silent bytes body = absurd body.answers
 dirents_unwrap reply bytes body = absurd (cc body.answers)
 
-pub reads_dirents : (row : RowItems Dirent) (ds : List Dirent) (bytes : List ℕ) → row.items ≡ ds → 16 + length bytes < 2 ^ 32 → bytes ≡ dirents_text ds → All IsDirent ds → ReadsBody kinds.Dirents bytes (Ok (Dirents row))
+pub reads_dirents : (row : RowItems Dirent) (ds : List Dirent) (bytes : List ℕ) → row.items ≡ ds → 16 + length bytes < 2 ^ 32
+    → bytes ≡ dirents_text ds → All IsDirent ds → ReadsBody kinds.Dirents bytes (Ok (Dirents row))
 unfolding body_of
 reads_dirents row ds bytes items fits is all = record {
   found = record {

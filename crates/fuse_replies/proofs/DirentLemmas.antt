@@ -50,7 +50,8 @@ pub left_behind : (d : Dirent) (rest bytes : List ℕ) → bytes ≡ dirent_text
 left_behind d rest bytes is = back_is bytes (front_text (front_value d)) (named d rest) 24 (length-front_text (front_value d)) (is ∙ dirent_parts d rest)
 
 -- a dirent of the parts that were read
-pub dirent_made : (f : DirentFront) (name text rest bytes : List ℕ) → text ≡ name → length name ≡ f.namelen → take 24 bytes ≡ front_text f → drop 24 bytes ≡ name ++ (replicate (padding_of f.namelen) 0 ++ rest)
+pub dirent_made : (f : DirentFront) (name text rest bytes : List ℕ) → text ≡ name → length name ≡ f.namelen → take 24 bytes ≡ front_text f
+    → drop 24 bytes ≡ name ++ (replicate (padding_of f.namelen) 0 ++ rest)
     → bytes ≡ dirent_text (record { off = f.off; kind = f.kind; name = text }) ++ rest
 dirent_made f name text rest bytes text-is long front back =
     let d : Dirent = record { off = f.off; kind = f.kind; name = text } in
@@ -60,13 +61,15 @@ dirent_made f name text rest bytes text-is long front back =
     sym (take-append-drop 24 bytes) ∙ ap (λ (xs : List ℕ). xs ++ drop 24 bytes) (front ∙ ap front_text f-is) ∙ ap (λ (xs : List ℕ). front_text (front_value d) ++ xs) back_text ∙ sym (dirent_parts d rest)
 
 -- the front that was read is that of each dirent at the front of the bytes
-pub front_again : (f : DirentFront) (d : Dirent) (rest bytes front : List ℕ) → front ≡ take 24 bytes → Reads front_text IsFront front (Some f) → IsDirent d → bytes ≡ dirent_text d ++ rest → f ≡ front_value d
+pub front_again : (f : DirentFront) (d : Dirent) (rest bytes front : List ℕ) → front ≡ take 24 bytes → Reads front_text IsFront front (Some f)
+    → IsDirent d → bytes ≡ dirent_text d ++ rest → f ≡ front_value d
 front_again f d rest bytes front front-is read fits is =
     let again : Some f ≡ Some (front_value d) = read.again (front_value d) (front_fits d fits) (front-is ∙ taken_front d rest bytes is) in
     cc
 
 -- the name that was read is that of each dirent at the front of the bytes
-pub name_again : (f : DirentFront) (d : Dirent) (rest bytes back name after : List ℕ) → f ≡ front_value d → back ≡ drop 24 bytes → bytes ≡ dirent_text d ++ rest → length name ≡ f.namelen → back ≡ name ++ after → d.name ≡ name
+pub name_again : (f : DirentFront) (d : Dirent) (rest bytes back name after : List ℕ) → f ≡ front_value d → back ≡ drop 24 bytes
+    → bytes ≡ dirent_text d ++ rest → length name ≡ f.namelen → back ≡ name ++ after → d.name ≡ name
 name_again f d rest bytes back name after f-is back-is is long parts =
     let len : length name ≡ length d.name = long ∙ ap (λ (g : DirentFront). g.namelen) f-is in
     sym (front_is back d.name (replicate (padding_of (length d.name)) 0 ++ rest) (length d.name) refl (back-is ∙ left_behind d rest bytes is)) ∙ front_is back name after (length d.name) len parts
@@ -94,7 +97,8 @@ dirent_unique x y r s x_fits y_fits e =
     (same, append_cancel_left (dirent_text y) r s (ap (λ (d : Dirent). dirent_text d ++ r) (sym same) ∙ e))
 
 -- dirents whose text goes on are the front of dirents with the whole text
-pub dirents_split : (xs ys : List Dirent) (rest : List ℕ) → AllByRecursion IsDirent xs → AllByRecursion IsDirent ys → dirents_text xs ++ rest ≡ dirents_text ys → (tail : List Dirent) × (rest ≡ dirents_text tail) × AllByRecursion IsDirent tail × (ys ≡ xs ++ tail)
+pub dirents_split : (xs ys : List Dirent) (rest : List ℕ) → AllByRecursion IsDirent xs → AllByRecursion IsDirent ys
+    → dirents_text xs ++ rest ≡ dirents_text ys → (tail : List Dirent) × (rest ≡ dirents_text tail) × AllByRecursion IsDirent tail × (ys ≡ xs ++ tail)
 unfolding dirents_text
 dirents_split [] ys rest xs_fit ys_fit e = (ys, e, ys_fit, refl)
 dirents_split (x ∷ xs) [] rest xs_fit ys_fit e =
@@ -110,13 +114,15 @@ unfolding dirents_text
 dirents_on ds d bytes rest after so_far next =
     rw (flat_map-append dirent_text ds (d ∷ []), flat_map-cons, append-nil, append_assoc, ← next) so_far
 
-nothing_next : (tail : List Dirent) (rest : List ℕ) → 0 < length rest → ((d : Dirent) (after : List ℕ) → IsDirent d → rest ≢ dirent_text d ++ after) → AllByRecursion IsDirent tail → rest ≢ dirents_text tail
+nothing_next : (tail : List Dirent) (rest : List ℕ) → 0 < length rest → ((d : Dirent) (after : List ℕ) → IsDirent d → rest ≢ dirent_text d ++ after)
+    → AllByRecursion IsDirent tail → rest ≢ dirents_text tail
 unfolding dirents_text
 nothing_next [] rest more none fits is = omega (arith, ap length is)
 nothing_next (d ∷ ds) rest more none fits is = none d (flat_map dirent_text ds) fits.0 is
 
 -- where no dirent is next, and something is, the bytes are the text of no dirents
-pub none_next : (so_far : List Dirent) (bytes rest : List ℕ) → 0 < length rest → bytes ≡ dirents_text so_far ++ rest → All IsDirent so_far → ((d : Dirent) (after : List ℕ) → IsDirent d → rest ≢ dirent_text d ++ after)
+pub none_next : (so_far : List Dirent) (bytes rest : List ℕ) → 0 < length rest → bytes ≡ dirents_text so_far ++ rest → All IsDirent so_far
+    → ((d : Dirent) (after : List ℕ) → IsDirent d → rest ≢ dirent_text d ++ after)
     → (ds : List Dirent) → All IsDirent ds → bytes ≢ dirents_text ds
 none_next so_far bytes rest more is fits none ds ds_fit whole =
     let split = dirents_split so_far ds rest (recursion_from_All IsDirent so_far fits) (recursion_from_All IsDirent ds ds_fit) (sym is ∙ whole) in

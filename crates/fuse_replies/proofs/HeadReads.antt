@@ -35,7 +35,8 @@ kind_sent : (kind : ReplyKind) (reply : Reply) → IsOfKind kind reply → reply
 kind_sent kind reply answers is = subst (IsOfKind kind) is answers
 
 -- the frame of a reply is its head and its body
-pub frame_parts : (kind : ReplyKind) (unique : ℕ) (reply : Reply) (bytes : List ℕ) → IsFrame kind unique reply bytes → bytes ≡ out_head (16 + length (body_of reply)) (errno_of reply) unique ++ body_of reply
+pub frame_parts : (kind : ReplyKind) (unique : ℕ) (reply : Reply) (bytes : List ℕ) → IsFrame kind unique reply bytes
+    → bytes ≡ out_head (16 + length (body_of reply)) (errno_of reply) unique ++ body_of reply
 frame_parts kind unique reply bytes frame = frame.text ∙ frame_of-sent unique reply (kind_sent kind reply frame.answers)
 
 pub errno_small : (reply : Reply) → IsSendable reply → errno_of reply ≤ 511
@@ -71,7 +72,8 @@ pub record SameHead (errno unique : ℕ) (body : List ℕ) (unique' : ℕ) (repl
   pub unique_is : unique ≡ unique'
   pub body_is : body ≡ body_of reply
 
-pub same_head : (kind : ReplyKind) (errno unique unique' : ℕ) (body bytes : List ℕ) (reply : Reply) → errno < 2 ^ 32 → unique < 2 ^ 64 → bytes ≡ out_head (16 + length body) errno unique ++ body → IsFrame kind unique' reply bytes → SameHead errno unique body unique' reply
+pub same_head : (kind : ReplyKind) (errno unique unique' : ℕ) (body bytes : List ℕ) (reply : Reply) → errno < 2 ^ 32 → unique < 2 ^ 64
+    → bytes ≡ out_head (16 + length body) errno unique ++ body → IsFrame kind unique' reply bytes → SameHead errno unique body unique' reply
 same_head kind errno unique unique' body bytes reply errno_fits unique_fits is frame =
     let parts = frame_parts kind unique' reply bytes frame in
     let small : errno_of reply < 2 ^ 32 = omega (arith, errno_small reply frame.reply_fits.sendable) in
@@ -82,13 +84,15 @@ same_head kind errno unique unique' body bytes reply errno_fits unique_fits is f
     }
 
 -- a frame without an errno has the body of its reply
-pub body_of_frame : (kind : ReplyKind) (unique unique' : ℕ) (body bytes : List ℕ) (reply : Reply) → unique < 2 ^ 64 → bytes ≡ out_head (16 + length body) 0 unique ++ body → IsFrame kind unique' reply bytes → IsBody kind reply body
+pub body_of_frame : (kind : ReplyKind) (unique unique' : ℕ) (body bytes : List ℕ) (reply : Reply) → unique < 2 ^ 64
+    → bytes ≡ out_head (16 + length body) 0 unique ++ body → IsFrame kind unique' reply bytes → IsBody kind reply body
 body_of_frame kind unique unique' body bytes reply unique_fits is frame =
     let same = same_head kind 0 unique unique' body bytes reply (omega arith) unique_fits is frame in
     record { reply_fits = frame.reply_fits; answers = frame.answers; done = sym same.errno_is; text = same.body_is }
 
 -- a body gives a frame
-pub frame_of_body : (kind : ReplyKind) (unique : ℕ) (body bytes : List ℕ) (reply : Reply) → unique < 2 ^ 64 → bytes ≡ out_head (16 + length body) 0 unique ++ body → IsBody kind reply body → IsFrame kind unique reply bytes
+pub frame_of_body : (kind : ReplyKind) (unique : ℕ) (body bytes : List ℕ) (reply : Reply) → unique < 2 ^ 64
+    → bytes ≡ out_head (16 + length body) 0 unique ++ body → IsBody kind reply body → IsFrame kind unique reply bytes
 frame_of_body kind unique body bytes reply unique_fits is of = record {
   unique_fits = unique_fits;
   reply_fits = of.reply_fits;
@@ -97,12 +101,15 @@ frame_of_body kind unique body bytes reply unique_fits is of = record {
 }
 
 -- bytes that don't begin with a head of their length are no frame
-pub no_frame : (kind : ReplyKind) (unique : ℕ) (reply : Reply) (bytes : List ℕ) → ((errno unique : ℕ) (body : List ℕ) → errno < 2 ^ 32 → unique < 2 ^ 64 → 16 + length body < 2 ^ 32 → bytes ≢ out_head (16 + length body) errno unique ++ body) → IsFrame kind unique reply bytes → ⊥
+pub no_frame : (kind : ReplyKind) (unique : ℕ) (reply : Reply) (bytes : List ℕ)
+    → ((errno unique : ℕ) (body : List ℕ) → errno < 2 ^ 32 → unique < 2 ^ 64 → 16 + length body < 2 ^ 32 → bytes ≢ out_head (16 + length body) errno unique ++ body)
+    → IsFrame kind unique reply bytes → ⊥
 no_frame kind unique reply bytes none frame =
     none (errno_of reply) unique (body_of reply) (omega (arith, errno_small reply frame.reply_fits.sendable)) frame.unique_fits (body_small reply frame.reply_fits.sendable) (frame_parts kind unique reply bytes frame)
 
 -- the head that is written from what was read is that of the frame
-pub head_again : (len errno unique errno_read' unique_read' : ℕ) (body bytes head : List ℕ) → errno < 2 ^ 32 → unique < 2 ^ 64 → bytes ≡ out_head (16 + length body) errno unique ++ body → len ≡ length bytes → errno_read' ≡ negated (u32_at bytes 4) → unique_read' ≡ u64_at bytes 8
+pub head_again : (len errno unique errno_read' unique_read' : ℕ) (body bytes head : List ℕ) → errno < 2 ^ 32 → unique < 2 ^ 64
+    → bytes ≡ out_head (16 + length body) errno unique ++ body → len ≡ length bytes → errno_read' ≡ negated (u32_at bytes 4) → unique_read' ≡ u64_at bytes 8
     → head ≡ out_head len errno_read' unique_read' → bytes ≡ head ++ body
 head_again len errno unique errno_read' unique_read' body bytes head errno_fits unique_fits is len-is errno-is unique-is head-is =
     let l : len ≡ 16 + length body = len-is ∙ length-frame (16 + length body) errno unique body bytes is in
@@ -111,7 +118,8 @@ head_again len errno unique errno_read' unique_read' body bytes head errno_fits 
     is ∙ ap (λ (xs : List ℕ). xs ++ body) (ap (λ (n : ℕ). out_head n errno unique) (sym l) ∙ ap (λ (n : ℕ). out_head len n unique) (sym e) ∙ ap (out_head len errno_read') (sym u) ∙ sym head-is)
 
 -- an error is read from a frame with its errno and no body
-pub error_frame : (kind : ReplyKind) (errno unique : ℕ) (body bytes : List ℕ) → 0 < errno → errno ≤ 511 → unique < 2 ^ 64 → body ≡ [] → bytes ≡ out_head (16 + length body) errno unique ++ body → IsFrame kind unique (Error errno) bytes
+pub error_frame : (kind : ReplyKind) (errno unique : ℕ) (body bytes : List ℕ) → 0 < errno → errno ≤ 511 → unique < 2 ^ 64 → body ≡ []
+    → bytes ≡ out_head (16 + length body) errno unique ++ body → IsFrame kind unique (Error errno) bytes
 error_frame kind errno unique body bytes some small unique_fits none is = record {
   unique_fits = unique_fits;
   reply_fits = record { sendable = (omega arith, small); in_range = tt };
@@ -119,7 +127,9 @@ error_frame kind errno unique body bytes some small unique_fits none is = record
   text = is ∙ ap (λ (xs : List ℕ). out_head (16 + length xs) errno unique ++ xs) (none ∙ sym (error_body errno)) ∙ sym (frame_of-sent unique (Error errno) (λ e. cc));
 }
 
-pub error_again : (kind : ReplyKind) (errno unique unique' : ℕ) (body bytes : List ℕ) (reply : Reply) → 0 < errno → errno < 2 ^ 32 → unique < 2 ^ 64 → bytes ≡ out_head (16 + length body) errno unique ++ body → IsFrame kind unique' reply bytes → (reply ≡ Error errno) × (errno ≤ 511) × (body ≡ []) × (unique ≡ unique')
+pub error_again : (kind : ReplyKind) (errno unique unique' : ℕ) (body bytes : List ℕ) (reply : Reply) → 0 < errno → errno < 2 ^ 32 → unique < 2 ^ 64
+    → bytes ≡ out_head (16 + length body) errno unique ++ body → IsFrame kind unique' reply bytes
+    → (reply ≡ Error errno) × (errno ≤ 511) × (body ≡ []) × (unique ≡ unique')
 error_again kind errno unique unique' body bytes reply some errno_fits unique_fits is frame =
     let same = same_head kind errno unique unique' body bytes reply errno_fits unique_fits is frame in
     let error : reply ≡ Error (errno_of reply) = is_error reply (omega (arith, same.errno_is, some)) in

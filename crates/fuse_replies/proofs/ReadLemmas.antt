@@ -41,7 +41,8 @@ pub u32_at-all : (fields : List ℕ) (k : ℕ) → k < length fields → get_or 
 u32_at-all fields k here fits = ap (λ (bytes : List ℕ). u32_at bytes (4 * k)) (sym (append-nil (u32s fields))) ∙ u32_at-u32s fields [] k here fits
 
 -- a field of four bytes behind fields of eight
-pub u32_at-behind : (wide narrow : List ℕ) (place k : ℕ) → place ≡ 8 * length wide + 4 * k → k < length narrow → get_or narrow k 0 < 2 ^ 32 → u32_at (u64s wide ++ u32s narrow) place ≡ get_or narrow k 0
+pub u32_at-behind : (wide narrow : List ℕ) (place k : ℕ) → place ≡ 8 * length wide + 4 * k → k < length narrow → get_or narrow k 0 < 2 ^ 32
+    → u32_at (u64s wide ++ u32s narrow) place ≡ get_or narrow k 0
 u32_at-behind wide narrow place k at here fits =
     let behind : place ≡ length (u64s wide) + 4 * k = omega (arith, length-u64s wide) in
     ap (u32_at (u64s wide ++ u32s narrow)) behind ∙ u32_at-append_past (u64s wide) (u32s narrow) (4 * k) ∙ u32_at-all narrow k here fits
@@ -72,13 +73,15 @@ pub reads_none : {A : Type 0} (text : A → List ℕ) (fits : A → Type 0) (byt
 reads_none text fits bytes none = record { found = tt; again = λ x x_fits is. absurd (none x x_fits is) }
 
 -- what a reader answers that reads the fields and tests whether the bytes are the text of what they tell
-pub reads_some : {A : Type 0} (text : A → List ℕ) (fits : A → Type 0) (at : List ℕ → A) (bytes : List ℕ) (x : A) → ((y : A) → fits y → at (text y) ≡ y) → x ≡ at bytes → fits x → bytes ≡ text x → Reads text fits bytes (Some x)
+pub reads_some : {A : Type 0} (text : A → List ℕ) (fits : A → Type 0) (at : List ℕ → A) (bytes : List ℕ) (x : A)
+    → ((y : A) → fits y → at (text y) ≡ y) → x ≡ at bytes → fits x → bytes ≡ text x → Reads text fits bytes (Some x)
 reads_some text fits at bytes x back x-is x_fits is = record {
   found = (is, x_fits);
   again = λ y y_fits y_is. ap Some (x-is ∙ ap at y_is ∙ back y y_fits);
 }
 
-pub reads_other : {A : Type 0} (text : A → List ℕ) (fits : A → Type 0) (at : List ℕ → A) (bytes : List ℕ) (x : A) → ((y : A) → fits y → at (text y) ≡ y) → x ≡ at bytes → bytes ≢ text x → Reads text fits bytes None
+pub reads_other : {A : Type 0} (text : A → List ℕ) (fits : A → Type 0) (at : List ℕ → A) (bytes : List ℕ) (x : A)
+    → ((y : A) → fits y → at (text y) ≡ y) → x ≡ at bytes → bytes ≢ text x → Reads text fits bytes None
 reads_other text fits at bytes x back x-is other =
     reads_none text fits bytes (λ y y_fits y_is. other (y_is ∙ ap text (sym (x-is ∙ ap at y_is ∙ back y y_fits))))
 
@@ -133,7 +136,8 @@ reads_second_none text fits first first_fits second second_fits left right n joi
     reads_none text fits bytes (λ z z_fits z_is. absurd (let again = none.again (right z) (joined.right_fits z z_fits) (back-is ∙ back_is bytes (first (left z)) (second (right z)) n (joined.long (left z)) (z_is ∙ joined.split z)) in cc))
 
 pub reads_both : {A B C : Type 0} (text : C → List ℕ) (fits : C → Type 0) (first : A → List ℕ) (first_fits : A → Type 0) (second : B → List ℕ) (second_fits : B → Type 0) (left : C → A) (right : C → B) (n : ℕ)
-    → IsJoined text fits first first_fits second second_fits left right n → (bytes front back : List ℕ) → front ≡ take n bytes → back ≡ drop n bytes → (z : C) → Reads first first_fits front (Some (left z)) → Reads second second_fits back (Some (right z)) → Reads text fits bytes (Some z)
+    → IsJoined text fits first first_fits second second_fits left right n → (bytes front back : List ℕ) → front ≡ take n bytes → back ≡ drop n bytes
+    → (z : C) → Reads first first_fits front (Some (left z)) → Reads second second_fits back (Some (right z)) → Reads text fits bytes (Some z)
 reads_both text fits first first_fits second second_fits left right n joined bytes front back front-is back-is z one two = record {
   found = (sym (take-append-drop n bytes) ∙ ap (λ (xs : List ℕ). xs ++ drop n bytes) (sym front-is ∙ one.found.0) ∙ ap (λ (xs : List ℕ). first (left z) ++ xs) (sym back-is ∙ two.found.0) ∙ sym (joined.split z), joined.fit z one.found.1 two.found.1);
   again = λ w w_fits w_is.
@@ -167,11 +171,13 @@ created_joined = record {
 }
 
 -- a text behind the same bytes for all
-pub reads_not_behind : {A : Type 0} (text second : A → List ℕ) (fits : A → Type 0) (fixed : List ℕ) → ((x : A) → text x ≡ fixed ++ second x) → (bytes front : List ℕ) → front ≡ take (length fixed) bytes → front ≢ fixed → Reads text fits bytes None
+pub reads_not_behind : {A : Type 0} (text second : A → List ℕ) (fits : A → Type 0) (fixed : List ℕ) → ((x : A) → text x ≡ fixed ++ second x)
+    → (bytes front : List ℕ) → front ≡ take (length fixed) bytes → front ≢ fixed → Reads text fits bytes None
 reads_not_behind text second fits fixed split bytes front front-is other =
     reads_none text fits bytes (λ x x_fits x_is. other (front-is ∙ front_is bytes fixed (second x) (length fixed) refl (x_is ∙ split x)))
 
-pub reads_behind : {A : Type 0} (text second : A → List ℕ) (fits : A → Type 0) (fixed : List ℕ) → ((x : A) → text x ≡ fixed ++ second x) → (bytes front back : List ℕ) → front ≡ take (length fixed) bytes → back ≡ drop (length fixed) bytes → front ≡ fixed
+pub reads_behind : {A : Type 0} (text second : A → List ℕ) (fits : A → Type 0) (fixed : List ℕ) → ((x : A) → text x ≡ fixed ++ second x)
+    → (bytes front back : List ℕ) → front ≡ take (length fixed) bytes → back ≡ drop (length fixed) bytes → front ≡ fixed
     → (result : Option A) → Reads second fits back result → Reads text fits bytes result
 reads_behind text second fits fixed split bytes front back front-is back-is is None none =
     reads_none text fits bytes (λ x x_fits x_is. absurd (let again = none.again x x_fits (back-is ∙ back_is bytes fixed (second x) (length fixed) refl (x_is ∙ split x)) in cc))

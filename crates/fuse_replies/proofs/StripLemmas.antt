@@ -17,7 +17,8 @@ pub strip_more : (f : ℕ → List ℕ) (xs : List ℕ) (i : ℕ) (bytes rest pi
 strip_more f xs i bytes rest piece after here so_far is next =
     rw (take_more xs i 0 here, flat_map-append f (take i xs) (get_or xs i 0 ∷ []), flat_map-cons, append-nil, append_assoc, ← is, ← next) so_far
 
-pub strip_none : (f : ℕ → List ℕ) (xs : List ℕ) (i : ℕ) (bytes rest piece : List ℕ) → i < length xs → bytes ≡ flat_map f (take i xs) ++ rest → piece ≡ f (get_or xs i 0) → ((after : List ℕ) → rest ≢ piece ++ after)
+pub strip_none : (f : ℕ → List ℕ) (xs : List ℕ) (i : ℕ) (bytes rest piece : List ℕ) → i < length xs → bytes ≡ flat_map f (take i xs) ++ rest
+    → piece ≡ f (get_or xs i 0) → ((after : List ℕ) → rest ≢ piece ++ after)
     → (after : List ℕ) → bytes ≢ flat_map f xs ++ after
 strip_none f xs i bytes rest piece here so_far is none after whole =
     let others = flat_map f (drop (i + 1) xs) in

@@ -1,5 +1,7 @@
 -- Each kind of step keeps the rule.
 use Rattle.std.proofs.Common.{◌≡◌, ◌≢◌, ◌⊎◌, ℕ, zero, suc, ◌+◌, ◌%◌, ◌^◌, ◌<◌, eqb, Bool, true, false, not, ◌||◌, ◌&&◌, List, [], ◌∷◌, ◌++◌, length, get_or, set, All, Option, Some, None, is_some, refl, sym, ap, ◌∙◌, subst, inl, inr, ⊎_elim, true≢false, length-append, pos_of_ne-zero, mod-eq_of_lt, eqb-true, arith}
+use Rattle.base_laws.proofs.Options.{same_some}
+use Rattle.std.proofs.lemmas.Option.{none-some}
 use Rattle.std.proofs.lemmas.List.Elements.{All-nil, All-push}
 use Rattle.std.proofs.lemmas.Bool.{and_parts}
 use Rattle.std.proofs.lemmas.Bool.Decides.{nat_tests}
@@ -24,12 +26,6 @@ use Rattle.turn_lock.proofs.Views.{at_length, each_set, each_end, apart_set, apa
 not_held : (b : Bool) → (b ≡ true → ⊥) → b ≡ false
 not_held true h = absurd (h refl)
 not_held false h = refl
-
-some_one : {X : Type 0} {x y : X} → Some x ≡ Some y → x ≡ y
-some_one e = cc
-
-some-not-none : {X : Type 0} (x : X) → None ≡ Some x → ⊥
-some-not-none x e = cc
 
 only_first : {A : Type 0} (P : ℕ → A → Type 0) (a : A) → P 0 a → (i : ℕ) (b : A) → get_elem? (a ∷ []) i ≡ some b → P i b
 only_first P a h zero b e = subst (P 0) (some-injective a b e) h
@@ -259,7 +255,7 @@ module _ {S E H : Type 0} (entries : S → List E) (home : S → H) (may_make : 
               inside = λ _. (ap (λ l. l ++ x ∷ []) within.0, within.1);
             })
             (λ n h. h) r.apart,
-        (λ e' is'. ap (λ y. (appended v y, c)) (some_one (sym is ∙ is'))),
+        (λ e' is'. ap (λ y. (appended v y, c)) (same_some _ _ (sym is ∙ is'))),
       )
 
   -- Leaving: the state goes back, and the turn is free
@@ -374,7 +370,7 @@ module _ {S E H : Type 0} (entries : S → List E) (home : S → H) (may_make : 
         made = r.made;
         place = same_place_else (set s.views id both) other w spent r.book r.turn s.homes there' out refl (same_place s.views id v both r.book r.turn r.turn s.homes at refl (λ e. e) (λ h. h) r.place);
         knows = each_set (λ j u. Knows first r.book u) (set s.views id both) other spent
-            (record { lock = λ x e. absurd (some-not-none x e); seen = (r.book, refl, λ k d l. refl); met = (r.book, refl, λ k d l. refl); inside = λ h. absurd (true≢false (sym h)) })
+            (record { lock = λ x e. absurd (none-some x e); seen = (r.book, refl, λ k d l. refl); met = (r.book, refl, λ k d l. refl); inside = λ h. absurd (true≢false (sym h)) })
             (λ j u _ e. each_set (λ j u. Knows first r.book u) s.views id both (record { lock = kn.lock; seen = kn.seen; met = kw.seen; inside = kn.inside }) (λ j u _ e. r.knows j u e) j u e);
         apart = apart_joined s.views id other v w both spent at there r.apart
             (λ n h. held_by_one (has v.held n) (has v.met_held n) (has w.held n) (has w.met_held n) h)
@@ -397,7 +393,7 @@ module _ {S E H : Type 0} (entries : S → List E) (home : S → H) (may_make : 
       nobody = λ i v e. only_first (λ j u. u.entered ≡ false) (first_known first) refl i v e;
     };
     knows = λ i v e. only_first (λ j u. Knows first [] u) (first_known first)
-        (record { lock = λ x e. sym (some_one e); seen = GoesOnBy-refl maker (AllBut []) []; met = GoesOnBy-refl maker (Only []) []; inside = λ h. absurd (true≢false (sym h)) }) i v e;
+        (record { lock = λ x e. sym (same_some _ _ e); seen = GoesOnBy-refl maker (AllBut []) []; met = GoesOnBy-refl maker (Only []) []; inside = λ h. absurd (true≢false (sym h)) }) i v e;
     apart = λ n i j v w ei ej _ _. only_index (first_known first) i v ei ∙ sym (only_index (first_known first) j w ej);
   }
 
@@ -428,7 +424,7 @@ module _ {S E H : Type 0} (entries : S → List E) (home : S → H) (may_make : 
   ends id v x words slots found all out is f at =
       let last = state_at_end id v x words slots all out is f in
       let same : found ≡ Some last.0 = some-injective found (Some last.0) (sym at ∙ last.1) in
-      (ap is_some same, λ state e. subst (StandsFor entries home may_make x v.seen) (some_one (sym same ∙ e)) last.2)
+      (ap is_some same, λ state e. subst (StandsFor entries home may_make x v.seen) (same_some _ _ (sym same ∙ e)) last.2)
 
   -- the same of a seat that has put the state into its slot
   pub leaves_from : (slots id : ℕ) (m n : Me (Option S) (Known S E)) (state x : S) (a b : ℕ) → n.1 ≡ (0, None) ∷ [] → m ≡ (n.0, (0, Some state) ∷ rest n.1) → n.0.entered ≡ true → n.0.first ≡ Some x

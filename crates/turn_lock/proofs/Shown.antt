@@ -1,5 +1,6 @@
 -- How a seat's value follows from what its thread knows.
 use Rattle.std.proofs.Common.{◌≡◌, ℕ, true, List, ◌∷◌, Option, Some, None, is_some, refl, sym, ap, ◌∙◌, subst, true≢false}
+use Rattle.base_laws.proofs.Options.{same_some}
 use Rattle.atomic_table.specs.Table.{rest}
 use Rattle.turn_lock.specs.declared.known.Line.{Line}
 use Rattle.turn_lock.specs.Book.{StandsFor}
@@ -12,9 +13,6 @@ present-is None h = absurd (true≢false (sym h))
 -- the front of a list, before its rest
 pub before_rest : {B : Type 0} (l xs : List (ℕ × B)) (a : ℕ × B) → l ≡ a ∷ xs → l ≡ a ∷ rest l
 before_rest l xs a e = e ∙ ap (λ ys. a ∷ ys) (sym (ap rest e))
-
-same_some : {B : Type 0} (x y : B) → Some x ≡ Some y → x ≡ y
-same_some x y e = cc
 
 pub same_front : {B : Type 0} (l xs ys : List (ℕ × Option B)) (n m : ℕ) (x y : B) (r : Option B) → l ≡ (n, Some x) ∷ xs → l ≡ (m, r) ∷ ys → r ≡ Some y → x ≡ y
 same_front {B} l xs ys n m x y r e f g = let pairs : ◌≡◌ {A = ℕ × Option B} (n, Some x) (m, r) = cc in same_some x y (ap (λ (p : ℕ × Option B). p.1) pairs ∙ g)

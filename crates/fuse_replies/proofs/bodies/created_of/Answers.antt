@@ -9,7 +9,8 @@ use Rattle.fuse_replies.proofs.TextLemmas.{length-entry_text, length-open_text}
 use Rattle.fuse_replies.proofs.bodies.created_of.Goals as goal
 
 pub returns-then-body-ne144 : goal.returns-then-body-ne144
-returns-then-body-ne144 c = reads_none created_text IsCreated c.args.body.now (λ e e_fits is. omega (arith, ap length is, length-entry_text e.0, length-open_text e.1, length-append (entry_text e.0) (open_text e.1)))
+returns-then-body-ne144 c =
+    reads_none created_text IsCreated c.args.body.now (λ e e_fits is. omega (arith, ap length is, length-entry_text e.0, length-open_text e.1, length-append (entry_text e.0) (open_text e.1)))
 
 pub returns-in_err-entry : goal.returns-in_err-entry
 returns-in_err-entry c =

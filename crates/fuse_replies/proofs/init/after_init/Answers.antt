@@ -32,20 +32,25 @@ upto_pages readahead flags = upto_writes readahead flags ++ pages
 
 pub returns-in_err-rest : goal.returns-in_err-rest
 unfolding init_text
-returns-in_err-rest c = rw c.from_residual.ensures (strips_none_then c.args.body.now (upto_pages c.args.readahead c.args.flags) unused (strips_none_then c.args.body.now (upto_writes c.args.readahead c.args.flags) pages (strips_none_then c.args.body.now (upto_limits c.args.readahead c.args.flags) writes (strips_none_then c.args.body.now (told c.args.readahead c.args.flags) limits c.in_err-rest.ensures))))
+returns-in_err-rest c =
+    rw c.from_residual.ensures (strips_none_then c.args.body.now (upto_pages c.args.readahead c.args.flags) unused (strips_none_then c.args.body.now (upto_writes c.args.readahead c.args.flags) pages (strips_none_then c.args.body.now (upto_limits c.args.readahead c.args.flags) writes (strips_none_then c.args.body.now (told c.args.readahead c.args.flags) limits c.in_err-rest.ensures))))
 
 pub returns-in_err-rest-2 : goal.returns-in_err-rest-2
 unfolding init_text
-returns-in_err-rest-2 c = rw c.from_residual-in_err-rest-2.ensures (strips_none_then c.args.body.now (upto_pages c.args.readahead c.args.flags) unused (strips_none_then c.args.body.now (upto_writes c.args.readahead c.args.flags) pages (strips_none_then c.args.body.now (upto_limits c.args.readahead c.args.flags) writes (strips_behind c.args.body.now (told c.args.readahead c.args.flags) c.in_ok-rest.rest.now limits None c.in_ok-rest.ensures c.in_err-rest-2.ensures))))
+returns-in_err-rest-2 c =
+    rw c.from_residual-in_err-rest-2.ensures (strips_none_then c.args.body.now (upto_pages c.args.readahead c.args.flags) unused (strips_none_then c.args.body.now (upto_writes c.args.readahead c.args.flags) pages (strips_none_then c.args.body.now (upto_limits c.args.readahead c.args.flags) writes (strips_behind c.args.body.now (told c.args.readahead c.args.flags) c.in_ok-rest.rest.now limits None c.in_ok-rest.ensures c.in_err-rest-2.ensures))))
 
 pub returns-in_err-rest-3 : goal.returns-in_err-rest-3
 unfolding init_text
-returns-in_err-rest-3 c = rw c.from_residual-in_err-rest-3.ensures (strips_none_then c.args.body.now (upto_pages c.args.readahead c.args.flags) unused (strips_none_then c.args.body.now (upto_writes c.args.readahead c.args.flags) pages (strips_behind c.args.body.now (upto_limits c.args.readahead c.args.flags) c.in_ok-rest-2.rest.now writes None (strips_then c.args.body.now (told c.args.readahead c.args.flags) c.in_ok-rest.rest.now limits c.in_ok-rest-2.rest.now c.in_ok-rest.ensures c.in_ok-rest-2.ensures) c.in_err-rest-3.ensures)))
+returns-in_err-rest-3 c =
+    rw c.from_residual-in_err-rest-3.ensures (strips_none_then c.args.body.now (upto_pages c.args.readahead c.args.flags) unused (strips_none_then c.args.body.now (upto_writes c.args.readahead c.args.flags) pages (strips_behind c.args.body.now (upto_limits c.args.readahead c.args.flags) c.in_ok-rest-2.rest.now writes None (strips_then c.args.body.now (told c.args.readahead c.args.flags) c.in_ok-rest.rest.now limits c.in_ok-rest-2.rest.now c.in_ok-rest.ensures c.in_ok-rest-2.ensures) c.in_err-rest-3.ensures)))
 
 pub returns-in_err-rest-4 : goal.returns-in_err-rest-4
 unfolding init_text
-returns-in_err-rest-4 c = rw c.from_residual-in_err-rest-4.ensures (strips_none_then c.args.body.now (upto_pages c.args.readahead c.args.flags) unused (strips_behind c.args.body.now (upto_writes c.args.readahead c.args.flags) c.in_ok-rest-3.rest.now pages None (strips_then c.args.body.now (upto_limits c.args.readahead c.args.flags) c.in_ok-rest-2.rest.now writes c.in_ok-rest-3.rest.now (strips_then c.args.body.now (told c.args.readahead c.args.flags) c.in_ok-rest.rest.now limits c.in_ok-rest-2.rest.now c.in_ok-rest.ensures c.in_ok-rest-2.ensures) c.in_ok-rest-3.ensures) c.in_err-rest-4.ensures))
+returns-in_err-rest-4 c =
+    rw c.from_residual-in_err-rest-4.ensures (strips_none_then c.args.body.now (upto_pages c.args.readahead c.args.flags) unused (strips_behind c.args.body.now (upto_writes c.args.readahead c.args.flags) c.in_ok-rest-3.rest.now pages None (strips_then c.args.body.now (upto_limits c.args.readahead c.args.flags) c.in_ok-rest-2.rest.now writes c.in_ok-rest-3.rest.now (strips_then c.args.body.now (told c.args.readahead c.args.flags) c.in_ok-rest.rest.now limits c.in_ok-rest-2.rest.now c.in_ok-rest.ensures c.in_ok-rest-2.ensures) c.in_ok-rest-3.ensures) c.in_err-rest-4.ensures))
 
 pub returns : goal.returns
 unfolding init_text
-returns c = strips_behind c.args.body.now (upto_pages c.args.readahead c.args.flags) c.in_ok-rest-4.rest.now unused c.strip_u32s-3.result (strips_then c.args.body.now (upto_writes c.args.readahead c.args.flags) c.in_ok-rest-3.rest.now pages c.in_ok-rest-4.rest.now (strips_then c.args.body.now (upto_limits c.args.readahead c.args.flags) c.in_ok-rest-2.rest.now writes c.in_ok-rest-3.rest.now (strips_then c.args.body.now (told c.args.readahead c.args.flags) c.in_ok-rest.rest.now limits c.in_ok-rest-2.rest.now c.in_ok-rest.ensures c.in_ok-rest-2.ensures) c.in_ok-rest-3.ensures) c.in_ok-rest-4.ensures) c.strip_u32s-3.ensures
+returns c =
+    strips_behind c.args.body.now (upto_pages c.args.readahead c.args.flags) c.in_ok-rest-4.rest.now unused c.strip_u32s-3.result (strips_then c.args.body.now (upto_writes c.args.readahead c.args.flags) c.in_ok-rest-3.rest.now pages c.in_ok-rest-4.rest.now (strips_then c.args.body.now (upto_limits c.args.readahead c.args.flags) c.in_ok-rest-2.rest.now writes c.in_ok-rest-3.rest.now (strips_then c.args.body.now (told c.args.readahead c.args.flags) c.in_ok-rest.rest.now limits c.in_ok-rest-2.rest.now c.in_ok-rest.ensures c.in_ok-rest-2.ensures) c.in_ok-rest-3.ensures) c.in_ok-rest-4.ensures) c.strip_u32s-3.ensures
