@@ -144,7 +144,8 @@ module _ (name : List ℕ) (generation : ℕ) (content : List ℕ) where
       has_along (effect b e) log k (IsBucket-state_by e.mode e.op b (All-head Asked e log asked) is) (All-tail Asked e log asked) (has_by e.mode e.op b is has)
 
 -- what is found has the content of what was found before under the generation
-same_content : (generation : ℕ) (content : List ℕ) (o : Object) (found : Option Object) → HasContent generation content found → option_and_then (λ (x : Object). if x.meta.generation == generation then Some x else None) found ≡ Some o → o.content ≡ content
+same_content : (generation : ℕ) (content : List ℕ) (o : Object) (found : Option Object) → HasContent generation content found
+    → option_and_then (λ (x : Object). if x.meta.generation == generation then Some x else None) found ≡ Some o → o.content ≡ content
 same_content generation content o found has live = subst (λ (x : Option Object). IfSome x (λ o. o.content ≡ content)) live has
 
 -- a live generation was given
@@ -168,7 +169,8 @@ content_of-live start (e ∷ log) (suc k) name generation o is asked live =
     by (object_of start name generation) refl
     (content_of-live (effect start e) log k name generation o (IsBucket-state_by e.mode e.op start (All-head Asked e log asked) is) (All-tail Asked e log asked) live)
   where
-    by : (found : Option Object) → object_of start name generation ≡ found → content_of (effect start e) log name generation ≡ Some o.content → content_or found (content_of (effect start e) log name generation) ≡ Some o.content
+    by : (found : Option Object) → object_of start name generation ≡ found → content_of (effect start e) log name generation ≡ Some o.content
+        → content_or found (content_of (effect start e) log name generation) ≡ Some o.content
     by None was later = later
     by (Some x) was later =
         let first : Has name generation x.content start = record { given = given start name generation x is was; found = subst (λ (f : Option Object). IfSome f (λ y. y.content ≡ x.content)) (sym was) refl } in

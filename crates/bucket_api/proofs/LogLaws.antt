@@ -99,7 +99,8 @@ state_at-pushed start log e =
     ∙ (fold-append effect start log (e ∷ []) ∙ ap (λ l. effect (fold effect start l) e) (sym (take-length log)))
 
 -- and is answered by it
-pub answer_at-pushed : (start : BucketState) (log : List LogEvent) (e : LogEvent) → answer_at start (log ++ e ∷ []) (length (log ++ e ∷ [])) ≡ Some (answer_by e.mode e.op (state_at start log (length log)))
+pub answer_at-pushed : (start : BucketState) (log : List LogEvent) (e : LogEvent)
+    → answer_at start (log ++ e ∷ []) (length (log ++ e ∷ [])) ≡ Some (answer_by e.mode e.op (state_at start log (length log)))
 answer_at-pushed start log e =
     let long : length (log ++ e ∷ []) ≡ suc (length log) = length-append log (e ∷ []) ∙ (omega arith) in
     let back : suc (length log) - 1 ≡ length log = omega arith in
@@ -109,7 +110,8 @@ answer_at-pushed start log e =
     ∙ ap (λ found. option_map (λ (x : LogEvent). answer_by x.mode x.op (state_at start log (length log))) found) (get_last log e)))
 
 -- a log that follows a script follows it with one more event that does
-pub FollowsScript-pushed : (script : List (ℕ × Mode)) (log : List LogEvent) (e : LogEvent) → FollowsScript script log → e.mode ≡ scripted_mode script (length log + 1) → FollowsScript script (log ++ e ∷ [])
+pub FollowsScript-pushed : (script : List (ℕ × Mode)) (log : List LogEvent) (e : LogEvent) → FollowsScript script log → e.mode ≡ scripted_mode script (length log + 1)
+    → FollowsScript script (log ++ e ∷ [])
 FollowsScript-pushed script log e follows mode zero = tt
 FollowsScript-pushed script log e follows mode (suc k) =
     each_pushed (λ j (x : LogEvent). x.mode ≡ scripted_mode script (suc j)) log e k (follows (suc k))

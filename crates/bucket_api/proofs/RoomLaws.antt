@@ -47,7 +47,8 @@ module _ {X : Type 0} (P : Option X → Type 0) (q k : List ℕ) where
       behind true found was later = was
       behind false found was later = later was
 
-      by : (r : Ordering) → (P rest → P (lookup (is_at (text_cmp q)) (insert_entry text_cmp es k v))) → P (lookup (is_at (text_cmp q)) (match_ordering r ((k, v) ∷ e ∷ es) ((e.0, v) ∷ es) (e ∷ insert_entry text_cmp es k v)))
+      by : (r : Ordering) → (P rest → P (lookup (is_at (text_cmp q)) (insert_entry text_cmp es k v)))
+          → P (lookup (is_at (text_cmp q)) (match_ordering r ((k, v) ∷ e ∷ es) ((e.0, v) ∷ es) (e ∷ insert_entry text_cmp es k v)))
       by Less later = chosen P (is_at (text_cmp q) k) (Some v) _ new old
       by Equal later = replaced (is_at (text_cmp q) e.0) old
       by Greater later = behind (is_at (text_cmp q) e.0) _ old later
@@ -65,7 +66,8 @@ within_with_new most b name o first within = record {
 }
 
 -- nor does one under a live name whose metageneration is the next number at most
-within_with_object : (most : ℕ) (b : BucketState) (name : List ℕ) (o : Object) → IsSome (object_at b name) → o.meta.metageneration ≤ most + 1 → IsWithin most b → IsWithin (most + 1) (with_object b name o)
+within_with_object : (most : ℕ) (b : BucketState) (name : List ℕ) (o : Object) → IsSome (object_at b name) → o.meta.metageneration ≤ most + 1 → IsWithin most b
+    → IsWithin (most + 1) (with_object b name o)
 within_with_object most b name o live new within = record {
   last = let h : b.last ≤ most = within.last in omega arith;
   metageneration = λ q.
@@ -102,7 +104,8 @@ IsWithin-state_after op most b is within = by op
     same : IsWithin (most + 1) b
     same = IsWithin-more most (most + 1) b (omega arith) within
 
-    updated : (name : List ℕ) (pairs : List Pair) (only only_meta : Option ℕ) (stamp : ℕ) (found : Option Object) → object_at b name ≡ found → IsWithin (most + 1) (option_map_or (λ o. if may_update only only_meta o then with_object b name (updated_object pairs stamp o) else b) found b)
+    updated : (name : List ℕ) (pairs : List Pair) (only only_meta : Option ℕ) (stamp : ℕ) (found : Option Object) → object_at b name ≡ found
+        → IsWithin (most + 1) (option_map_or (λ o. if may_update only only_meta o then with_object b name (updated_object pairs stamp o) else b) found b)
     updated name pairs only only_meta stamp None live = same
     updated name pairs only only_meta stamp (Some o) live =
         let was : o.meta.metageneration ≤ most = subst (λ found. option_map_or (λ o. o.meta.metageneration) found 0 ≤ most) live (within.metageneration name) in

@@ -32,14 +32,16 @@ keys_between {X} start (e ∷ es) = by (is_from_start text_cmp start e.0) (keys_
     by false later = later
 
 module _ (prefix : List ℕ) (slash : Bool) (after : Option (List ℕ)) (start : Bound (List ℕ)) (at : StartsAfter prefix slash after start) where
-  keys_inside : (names : List (List ℕ)) → filter (is_after after) (map (key_of prefix slash) (beginning prefix names)) ≡ map (key_of prefix slash) (beginning prefix (filter (is_from_start text_cmp start) names))
+  keys_inside : (names : List (List ℕ))
+      → filter (is_after after) (map (key_of prefix slash) (beginning prefix names)) ≡ map (key_of prefix slash) (beginning prefix (filter (is_from_start text_cmp start) names))
   keys_inside [] = refl
   keys_inside (m ∷ names) = by (starts_with nat_eq m prefix) refl (is_from_start text_cmp start m) refl (keys_inside names)
     where
       Same : List (List ℕ) → List (List ℕ) → Type 0
       Same xs ys = filter (is_after after) (map (key_of prefix slash) xs) ≡ map (key_of prefix slash) (beginning prefix ys)
 
-      by : (t : Bool) → starts_with nat_eq m prefix ≡ t → (u : Bool) → is_from_start text_cmp start m ≡ u → filter (is_after after) (map (key_of prefix slash) (beginning prefix names)) ≡ map (key_of prefix slash) (beginning prefix (filter (is_from_start text_cmp start) names))
+      by : (t : Bool) → starts_with nat_eq m prefix ≡ t → (u : Bool) → is_from_start text_cmp start m ≡ u
+          → filter (is_after after) (map (key_of prefix slash) (beginning prefix names)) ≡ map (key_of prefix slash) (beginning prefix (filter (is_from_start text_cmp start) names))
           → filter (is_after after) (map (key_of prefix slash) (cond (starts_with nat_eq m prefix) (m ∷ beginning prefix names) (beginning prefix names))) ≡ map (key_of prefix slash) (beginning prefix (cond (is_from_start text_cmp start m) (m ∷ filter (is_from_start text_cmp start) names) (filter (is_from_start text_cmp start) names)))
       by true front true inside later =
           let key : is_after after (key_of prefix slash m) ≡ true = at.keys m front ∙ inside in
@@ -132,7 +134,8 @@ starts_past_group prefix q s none = record {
   keys = λ m front.
       let rest : List ℕ = drop (length prefix) m in
       let to_key : text_cmp (prefix ++ (q ++ 47 ∷ s)) (key_of prefix true m) ≡ text_cmp (q ++ 47 ∷ s) (through_slash rest) = cmp_front prefix (q ++ 47 ∷ s) (through_slash rest) in
-      let to_name : text_cmp (prefix ++ (q ++ 48 ∷ [])) m ≡ text_cmp (q ++ 48 ∷ []) rest = ap (λ x. text_cmp (prefix ++ (q ++ 48 ∷ [])) x) (starts_split prefix m front) ∙ cmp_front prefix (q ++ 48 ∷ []) rest in
+      let to_name : text_cmp (prefix ++ (q ++ 48 ∷ [])) m ≡ text_cmp (q ++ 48 ∷ []) rest = ap (λ x. text_cmp (prefix ++ (q ++ 48 ∷ [])) x) (starts_split prefix m front)
+      ∙ cmp_front prefix (q ++ 48 ∷ []) rest in
       ap is_lt to_key ∙ (both_ways (is_lt (text_cmp (q ++ 47 ∷ s) (through_slash rest))) (is_le (text_cmp (q ++ 48 ∷ []) rest))
       (λ h. past_through q s rest none (is_lt-less (text_cmp (q ++ 47 ∷ s) (through_slash rest)) h))
       (λ h. ap is_lt (through_past q s rest none h))
@@ -150,7 +153,8 @@ le_from_not_less x y other = by (text_cmp y x) refl
     by Greater e = absurd (other (text_below y x e))
 
 -- the bounds, at what the code knows of the texts
-pub starts_at_group : (prefix part rest after bound : List ℕ) (slash : Bool) → slash ≡ true → IsBeforeSlash rest part → after ≡ prefix ++ rest → bound ≡ prefix ++ (part ++ 48 ∷ []) → StartsAfter prefix slash (Some after) (Included bound)
+pub starts_at_group : (prefix part rest after bound : List ℕ) (slash : Bool) → slash ≡ true → IsBeforeSlash rest part → after ≡ prefix ++ rest → bound ≡ prefix ++ (part ++ 48 ∷ [])
+    → StartsAfter prefix slash (Some after) (Included bound)
 starts_at_group prefix part rest after bound slash by_slash before is_after is_bound = rw (by_slash, is_after, before.is, is_bound) (starts_past_group prefix part before.rest before.none)
 
 pub starts_at_name : (prefix rest after bound : List ℕ) (slash : Bool) → (slash ≡ true → NoSlash rest) → after ≡ prefix ++ rest → bound ≡ after → StartsAfter prefix slash (Some after) (Excluded bound)

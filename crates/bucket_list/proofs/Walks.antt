@@ -118,7 +118,8 @@ pub record Goes (es : Entries) (prefix : List ℕ) (slash : Bool) (ahead : Optio
   pub keys : keys_shown prefix slash (keys_of (left_from ahead rest)) ≡ keys_shown prefix slash names
 
 -- nothing is shown of what stops
-shows_nothing : (prefix : List ℕ) (slash : Bool) (es : Entries) → IsStrictlySortedBy text_cmp (keys_of es) → ((e : List ℕ × Object) (later : Entries) → es ≡ e ∷ later → is_le (text_cmp prefix e.0) ≡ true) → Stops prefix es → keys_shown prefix slash (keys_of es) ≡ []
+shows_nothing : (prefix : List ℕ) (slash : Bool) (es : Entries) → IsStrictlySortedBy text_cmp (keys_of es)
+    → ((e : List ℕ × Object) (later : Entries) → es ≡ e ∷ later → is_le (text_cmp prefix e.0) ≡ true) → Stops prefix es → keys_shown prefix slash (keys_of es) ≡ []
 shows_nothing prefix slash [] sorted from stops = refl
 shows_nothing prefix slash (e ∷ es) sorted from stops = nothing_shown prefix slash e.0 (keys_of es) (from e es refl) stops sorted
 
@@ -128,7 +129,8 @@ sorted_none = tt
 
 module _ (es : Entries) (sorted : IsStrictlySortedBy text_cmp (keys_of es)) (prefix : List ℕ) (slash : Bool) (start : Bound (List ℕ)) (from : (m : List ℕ) → is_from_start text_cmp start m ≡ true → is_le (text_cmp prefix m) ≡ true) where
   -- a walk that begins from a bound
-  pub goes_from : (old : Entries) (ahead : Option Ahead) (new : Entries) → old ≡ from_bound start es → Looks prefix old ahead new → Goes es prefix slash ahead new (filter (is_from_start text_cmp start) (keys_of es))
+  pub goes_from : (old : Entries) (ahead : Option Ahead) (new : Entries) → old ≡ from_bound start es → Looks prefix old ahead new
+      → Goes es prefix slash ahead new (filter (is_from_start text_cmp start) (keys_of es))
   goes_from old None new is looks =
       let sorted_old : IsStrictlySortedBy text_cmp (keys_of old) = subst (λ xs. IsStrictlySortedBy text_cmp (keys_of xs)) (sym is) (subst (IsStrictlySortedBy text_cmp) (sym (keys_between start es)) (IsStrictlySortedBy-filter text_cmp (is_from_start text_cmp start) (keys_of es) sorted)) in
       let nothing : keys_shown prefix slash (keys_of old) ≡ [] = shows_nothing prefix slash old sorted_old (λ e later first. from e.0 (and_true _ (head_passes (λ e. is_from_start text_cmp start e.0 && true) e later es (sym is ∙ first)))) looks in
@@ -188,14 +190,16 @@ module _ (es : Entries) (prefix : List ℕ) (slash : Bool) (a : Ahead) (rest : E
       ∙ ap (λ n. n ∷ keys_shown prefix slash (keys_of rest)) (sym is.begins))
 
   -- the key of a name under a key that ends at a slash
-  pub shows_group : (part s : List ℕ) (none : NoSlash part) → slash ≡ true → a.rest.now ≡ part ++ 47 ∷ s → keys_shown prefix slash (keys_of ((a.name.now, a.object.now) ∷ rest)) ≡ group prefix part none ∷ keys_shown prefix slash (names_from (past prefix part none) (keys_of es))
+  pub shows_group : (part s : List ℕ) (none : NoSlash part) → slash ≡ true → a.rest.now ≡ part ++ 47 ∷ s
+      → keys_shown prefix slash (keys_of ((a.name.now, a.object.now) ∷ rest)) ≡ group prefix part none ∷ keys_shown prefix slash (names_from (past prefix part none) (keys_of es))
   shows_group part s none by_slash cut =
       let name : a.name.now ≡ prefix ++ (part ++ 47 ∷ s) = is.begins ∙ ap (λ r. prefix ++ r) cut in
       let shown : keys_shown prefix true (keys_of ((a.name.now, a.object.now) ∷ rest)) ≡ group prefix part none ∷ keys_shown prefix true (names_from (past prefix part none) (keys_of ((a.name.now, a.object.now) ∷ rest))) =
       subst (λ n. keys_shown prefix true (n ∷ keys_of rest) ≡ group prefix part none ∷ keys_shown prefix true (names_from (past prefix part none) (n ∷ keys_of rest))) (sym name) (group_shown prefix part none s (keys_of rest) (subst (λ n. IsStrictlySortedBy text_cmp (n ∷ keys_of rest)) name sorted)) in
       let below : text_cmp a.name.now (past prefix part none) ≡ Less = ap (λ n. text_cmp n (past prefix part none)) name ∙ (cmp_front prefix (part ++ 47 ∷ s) (part ++ 48 ∷ []) ∙ slash_below part s) in
       let same : names_from (past prefix part none) (keys_of ((a.name.now, a.object.now) ∷ rest)) ≡ names_from (past prefix part none) (keys_of es) =
-      sym (keys_between (Included (past prefix part none)) ((a.name.now, a.object.now) ∷ rest)) ∙ (ap keys_of (is.later (past prefix part none) below) ∙ keys_between (Included (past prefix part none)) es) in
+      sym (keys_between (Included (past prefix part none)) ((a.name.now, a.object.now) ∷ rest))
+      ∙ (ap keys_of (is.later (past prefix part none) below) ∙ keys_between (Included (past prefix part none)) es) in
       subst (λ t. keys_shown prefix t (keys_of ((a.name.now, a.object.now) ∷ rest)) ≡ group prefix part none ∷ keys_shown prefix t (names_from (past prefix part none) (keys_of es))) (sym by_slash)
       (shown ∙ ap (λ ns. group prefix part none ∷ keys_shown prefix true ns) same)
 
@@ -237,17 +241,22 @@ module _ (w : Walk) (a : Ahead) (is : IsWalk w) (next : w.ahead ≡ Some a) wher
       let g : Goes w.objects.now.entries w.prefix.now w.slash ahead rest (keys_of w.rest) = goes_on w.objects.now.entries w.prefix.now w.slash a w.rest sorted_ahead found_ahead is_ahead ahead rest looks in
       record {
         walk = record { ordered = g.ordered; found = g.found; ahead = g.next };
-        keys = ap (λ xs. keys_shown w.prefix.now w.slash (keys_of xs)) (left_ahead w a next) ∙ (shows_name w.objects.now.entries w.prefix.now w.slash a w.rest sorted_ahead found_ahead is_ahead none ∙ ap (λ ks. a.name.now ∷ ks) (sym g.keys));
+        keys = ap (λ xs. keys_shown w.prefix.now w.slash (keys_of xs)) (left_ahead w a next)
+            ∙ (shows_name w.objects.now.entries w.prefix.now w.slash a w.rest sorted_ahead found_ahead is_ahead none ∙ ap (λ ks. a.name.now ∷ ks) (sym g.keys));
         key = record { object = sym found_ahead.0; prefix_key = name_is_no_prefix none };
       }
 
   -- past all names that stand under a key that ends at a slash
-  pub steps_group : (part key_bytes past_bytes : List ℕ) (object : Option (Bor Object)) → w.slash ≡ true → IsBeforeSlash a.rest.now part → key_bytes ≡ w.prefix.now ++ (part ++ 47 ∷ []) → past_bytes ≡ w.prefix.now ++ (part ++ 48 ∷ []) → option_copied object ≡ lookup (is_at (text_cmp key_bytes)) w.objects.now.entries → IsStrictlySortedBy text_cmp (keys_of w.objects.now.entries) → (old rest : Entries) (ahead : Option Ahead) → old ≡ from_bound (Included past_bytes) w.objects.now.entries → Looks w.prefix.now old ahead rest → Steps w (Prefix key_bytes object) rest ahead
+  pub steps_group : (part key_bytes past_bytes : List ℕ) (object : Option (Bor Object)) → w.slash ≡ true → IsBeforeSlash a.rest.now part → key_bytes ≡ w.prefix.now ++ (part ++ 47 ∷ [])
+      → past_bytes ≡ w.prefix.now ++ (part ++ 48 ∷ []) → option_copied object ≡ lookup (is_at (text_cmp key_bytes)) w.objects.now.entries
+      → IsStrictlySortedBy text_cmp (keys_of w.objects.now.entries) → (old rest : Entries) (ahead : Option Ahead) → old ≡ from_bound (Included past_bytes) w.objects.now.entries
+      → Looks w.prefix.now old ahead rest → Steps w (Prefix key_bytes object) rest ahead
   steps_group part key_bytes past_bytes object by_slash before is_key is_past got sorted old rest ahead is_old looks =
       let under : List ℕ = past w.prefix.now part before.none in
       let g : Goes w.objects.now.entries w.prefix.now w.slash ahead rest (names_from under (keys_of w.objects.now.entries)) =
       goes_from w.objects.now.entries sorted w.prefix.now w.slash (Included under) (λ m h. le_le w.prefix.now under m (le_front w.prefix.now (part ++ 48 ∷ [])) h) old ahead rest (is_old ∙ ap (λ t. from_bound (Included t) w.objects.now.entries) is_past) looks in
-      let ends : is_prefix_key w.prefix.now true key_bytes ≡ true = ap (λ n. ends_in_slash (drop (length w.prefix.now) n)) is_key ∙ (ap ends_in_slash (drop-append_seam w.prefix.now (part ++ 47 ∷ [])) ∙ ends_at part) in
+      let ends : is_prefix_key w.prefix.now true key_bytes ≡ true = ap (λ n. ends_in_slash (drop (length w.prefix.now) n)) is_key
+      ∙ (ap ends_in_slash (drop-append_seam w.prefix.now (part ++ 47 ∷ [])) ∙ ends_at part) in
       record {
         walk = record { ordered = g.ordered; found = g.found; ahead = g.next };
         keys = ap (λ xs. keys_shown w.prefix.now w.slash (keys_of xs)) (left_ahead w a next) ∙ (shows_group w.objects.now.entries w.prefix.now w.slash a w.rest sorted_ahead found_ahead is_ahead part before.rest before.none by_slash before.is ∙ (ap (λ k. k ∷ keys_shown w.prefix.now w.slash (names_from under (keys_of w.objects.now.entries))) (sym is_key) ∙ ap (λ ks. key_bytes ∷ ks) (sym g.keys)));
@@ -259,7 +268,8 @@ pub record Begins (w : Walk) (after : Option (List ℕ)) : Type 0 where
   pub walk : IsWalk w
   pub keys : keys_left w ≡ keys_after w.objects.now.entries w.prefix.now w.slash after
 
-pub begins : (w : Walk) (after : Option (List ℕ)) (start : Bound (List ℕ)) (old : Entries) → StartsAfter w.prefix.now w.slash after start → IsStrictlySortedBy text_cmp (keys_of w.objects.now.entries) → old ≡ from_bound start w.objects.now.entries → Looks w.prefix.now old w.ahead w.rest → Begins w after
+pub begins : (w : Walk) (after : Option (List ℕ)) (start : Bound (List ℕ)) (old : Entries) → StartsAfter w.prefix.now w.slash after start
+    → IsStrictlySortedBy text_cmp (keys_of w.objects.now.entries) → old ≡ from_bound start w.objects.now.entries → Looks w.prefix.now old w.ahead w.rest → Begins w after
 begins w after start old at sorted is_old looks =
     let g : Goes w.objects.now.entries w.prefix.now w.slash w.ahead w.rest (filter (is_from_start text_cmp start) (keys_of w.objects.now.entries)) = goes_from w.objects.now.entries sorted w.prefix.now w.slash start at.from old w.ahead w.rest is_old looks in
     record {
@@ -288,7 +298,8 @@ more w is r e = by w.ahead refl
     by (Some a) some =
         let begins : starts_with nat_eq a.name.now w.prefix.now ≡ true = ap (λ n. starts_with nat_eq n w.prefix.now) (is_ahead w a is some).begins ∙ starts_front w.prefix.now a.rest.now in
         let shown : keys_left w ≡ insert_key text_cmp (keys_shown w.prefix.now w.slash (keys_of w.rest)) (key_of w.prefix.now w.slash a.name.now) =
-        ap (λ xs. keys_shown w.prefix.now w.slash (keys_of xs)) (left_ahead w a some) ∙ ap (λ t. in_order (map (key_of w.prefix.now w.slash) (cond t (a.name.now ∷ beginning w.prefix.now (keys_of w.rest)) (beginning w.prefix.now (keys_of w.rest))))) begins in (
+        ap (λ xs. keys_shown w.prefix.now w.slash (keys_of xs)) (left_ahead w a some)
+        ∙ ap (λ t. in_order (map (key_of w.prefix.now w.slash) (cond t (a.name.now ∷ beginning w.prefix.now (keys_of w.rest)) (beginning w.prefix.now (keys_of w.rest))))) begins in (
           λ _ nothing. insert_some (key_of w.prefix.now w.slash a.name.now) (keys_shown w.prefix.now w.slash (keys_of w.rest)) (sym shown ∙ nothing),
           λ _. e ∙ ap is_some some,
         )

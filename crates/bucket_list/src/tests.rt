@@ -86,7 +86,11 @@ fn counted(alloc: Global, count: u64, max: u64) -> Result<(u64, u64, bool), NoMe
 {
     let map = numbered(alloc, count)?;
     let listed = page(alloc, &map, "", true, max, None)?;
-    Ok((listed.items.len(), listed.prefixes.len(), listed.next.is_some()))
+    Ok((
+        listed.items.len(),
+        listed.prefixes.len(),
+        listed.next.is_some(),
+    ))
 }
 
 #[test]

@@ -46,7 +46,8 @@ module _ {logged : LoggedState} {b b' : BucketState} {rest rest' : List (ℕ × 
   logged_on = subst (λ l. IsLogged (record logged { log = l }) b' rest') (sym n.pushed) pushed
 
   -- and the event is the one that the script sets, with its answer
-  pub is_made : (moment : ℕ) (answer : Answer) → length logged.log + 1 < 2 ^ 63 → moment ≡ length logged.log + 1 → answer ≡ answer_by mode op b → MakesEvent lane op logged (record logged { log = log' }) moment answer
+  pub is_made : (moment : ℕ) (answer : Answer) → length logged.log + 1 < 2 ^ 63 → moment ≡ length logged.log + 1 → answer ≡ answer_by mode op b
+      → MakesEvent lane op logged (record logged { log = log' }) moment answer
   is_made moment answer short at answered =
       let list : log' ≡ logged.log ++ next_event logged lane op ∷ [] = n.pushed ∙ ap (λ m. logged.log ++ record { lane = lane; op = op; mode = m } ∷ []) n.set in
       let long : length log' ≡ length logged.log + 1 = ap length n.pushed ∙ longer in

@@ -111,7 +111,14 @@ fn faults_come_one_right_behind_the_other(rt: HostRuntime) -> Result<(), Fail> {
     answers(&rt, &mut bucket, insert(&rt)?, (3, Short::Refused(1)))?;
     answers(&rt, &mut bucket, delete(&rt)?, (4, Short::Done))?;
     assert_eq!(rt; bucket.bucket().last(), 1);
-    let modes = [mode_at(&bucket, 1), mode_at(&bucket, 2), mode_at(&bucket, 4)];
-    assert_eq!(rt; modes, [Some(Mode::Lost), Some(Mode::Failed), Some(Mode::Done)]);
+    let modes = [
+        mode_at(&bucket, 1),
+        mode_at(&bucket, 2),
+        mode_at(&bucket, 4),
+    ];
+    assert_eq!(rt;
+        modes,
+        [Some(Mode::Lost), Some(Mode::Failed), Some(Mode::Done)]
+    );
     Ok(())
 }

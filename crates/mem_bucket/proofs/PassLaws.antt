@@ -37,14 +37,16 @@ sound seat lane faults seated = record {
 }
 
 -- a seat that has seen more
-pub sees_more : (old new : Place) (faults : ℕ) → AllMade MayMake new.seen → GoesOn old.held old.seen new.seen → new ≡ record old { seen = new.seen } → SeesMore (pass_of old faults) (pass_of new faults)
+pub sees_more : (old new : Place) (faults : ℕ) → AllMade MayMake new.seen → GoesOn old.held old.seen new.seen → new ≡ record old { seen = new.seen }
+    → SeesMore (pass_of old faults) (pass_of new faults)
 sees_more old new faults made seen kept = record {
   seen = log_goes_on old.held old.seen new.seen made seen;
   kept = ap (λ (s : Place). pass_of s faults) kept;
 }
 
 -- a seat that has entered and left again has seen more
-pub came_back : (old inside left : Place) → old.entered ≡ false → inside ≡ record old { seen = inside.seen; entered = true } → left ≡ record inside { entered = false } → left ≡ record old { seen = left.seen }
+pub came_back : (old inside left : Place) → old.entered ≡ false → inside ≡ record old { seen = inside.seen; entered = true } → left ≡ record inside { entered = false }
+    → left ≡ record old { seen = left.seen }
 came_back old inside left out enters leaves =
     leaves ∙ (ap (λ (s : Place). record s { entered = false }) enters
     ∙ (ap (λ b. record old { seen = inside.seen; entered = b }) (sym out)
@@ -60,7 +62,8 @@ still_seated old new lane seated kept made = record {
 }
 
 -- a pass to this bucket has its seat at this bucket's lock
-pub same_first : (seat : Place) (faults : ℕ) (pass : PassState (Lock LoggedState)) (bucket turn : Lock LoggedState) → pass_of seat faults ≡ pass → pass.origin ≡ origin_of bucket → turn ≡ bucket → seat.lock.first ≡ turn.first
+pub same_first : (seat : Place) (faults : ℕ) (pass : PassState (Lock LoggedState)) (bucket turn : Lock LoggedState) → pass_of seat faults ≡ pass → pass.origin ≡ origin_of bucket → turn ≡ bucket
+    → seat.lock.first ≡ turn.first
 same_first seat faults pass bucket turn is fits same =
     ap (λ (l : Lock LoggedState). l.first) (ap (λ (p : PassState (Lock LoggedState)). p.origin.identity) is ∙ (ap (λ (o : Origin (Lock LoggedState)). o.identity) fits ∙ sym same))
 

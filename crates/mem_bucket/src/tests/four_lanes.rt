@@ -246,4 +246,3 @@ fn the_log_of_four_threads_explains_each_answer(rt: HostRuntime) -> Result<(), F
     assert!(rt; is_explained(&rt, log.as_slice(), answers.as_slice())?);
     Ok(())
 }
-

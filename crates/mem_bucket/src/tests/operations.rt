@@ -174,7 +174,11 @@ pub(super) fn shown(alloc: Global, answer: &Answer) -> Result<String, NoMemory> 
 fn shown_meta(alloc: Global, meta: &Meta) -> Result<String, NoMemory> {
     let mut text = format!(in alloc;
         "{} {} {} {} at {}",
-        meta.name.as_str(), meta.generation, meta.metageneration, meta.size, meta.updated
+        meta.name.as_str(),
+        meta.generation,
+        meta.metageneration,
+        meta.size,
+        meta.updated
     )?;
     for pair in meta.pairs.as_slice() {
         text.push_str(" ")?;

@@ -21,11 +21,7 @@ pub(super) fn no_faults(alloc: Global) -> Row<Scripted>
 }
 
 /// A script of one fault.
-pub(super) fn one_fault(
-    alloc: Global,
-    moment: u64,
-    mode: Mode,
-) -> Result<Row<Scripted>, NoMemory>
+pub(super) fn one_fault(alloc: Global, moment: u64, mode: Mode) -> Result<Row<Scripted>, NoMemory>
     requires later { 0 < moment }
     requires fault { mode ≢ Done }
     ensures { IfOk result (λ script. IsScript (script_of script.items)) }
