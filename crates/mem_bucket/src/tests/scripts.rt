@@ -36,8 +36,12 @@ pub(super) fn one_fault(alloc: Global, moment: u64, mode: Mode) -> Result<Row<Sc
 fn three_faults(alloc: Global) -> Result<Row<Scripted>, NoMemory>
     ensures { IfOk result (λ script. IsScript (script_of script.items)) }
 {
-    let mut script = one_fault(alloc, 1, Mode::Failed)?;
-    script.reserve(2)?;
+    let mut script = Row::new(alloc);
+    script.reserve(3)?;
+    script.push(Scripted {
+        moment: 1,
+        mode: Mode::Failed,
+    });
     script.push(Scripted {
         moment: 3,
         mode: Mode::Lost,
