@@ -13,7 +13,7 @@ use Rattle.bucket_api.specs.declared.answers.Answer.TheVariants.{Meta, Bytes, No
 use Rattle.bucket_api.specs.LogEvent.{LogEvent}
 use Rattle.bucket_api.specs.Operation.{Operation, stat, read, insert, update, delete, copy, list, IsAllowed}
 use Rattle.bucket_api.specs.BucketState.{BucketState, object_at, object_of, generation_at, IsBucket, IsWithin}
-use Rattle.bucket_api.specs.BucketStep.{holds, refused, new_object, updated_object, may_update, answer_to}
+use Rattle.bucket_api.specs.BucketStep.{is_met, refused, new_object, updated_object, may_update, answer_to}
 use Rattle.bucket_api.specs.Log.{state_by, answer_by, event_at, state_at, answer_at, scripted_mode, FollowsScript}
 use Rattle.bucket_api.proofs.BucketLaws.{IsBucket-state_after}
 use Rattle.bucket_api.proofs.RoomLaws.{IsWithin-more, IsWithin-state_after}
@@ -42,12 +42,12 @@ never_either false a b first second = second
 pub never_fault : (op : Operation) (b : BucketState) → answer_to op b ≡ Fault → ⊥
 never_fault (stat name) b = never_found (λ o. Meta o.meta) NotFound (object_at b name) (λ o e. cc) (λ e. cc)
 never_fault (read name generation first count) b = never_found (λ o. Bytes (take count (drop first o.content))) NotFound (object_of b name generation) (λ o e. cc) (λ e. cc)
-never_fault (insert name content pairs only stamp) b = never_either (holds only (generation_at b name)) _ _ (λ e. cc) (λ e. cc)
+never_fault (insert name content pairs only stamp) b = never_either (is_met only (generation_at b name)) _ _ (λ e. cc) (λ e. cc)
 never_fault (update name pairs only only_meta stamp) b =
     never_found (λ o. if may_update only only_meta o then Meta (updated_object pairs stamp o).meta else refused b name) NotFound (object_at b name)
     (λ o. never_either (may_update only only_meta o) (Meta (updated_object pairs stamp o).meta) (refused b name) (λ e. cc) (λ e. cc)) (λ e. cc)
 never_fault (delete name only) b =
-    never_found (λ o. if holds only o.meta.generation then Deleted else refused b name) NotFound (object_at b name) (λ o. never_either (holds only o.meta.generation) Deleted (refused b name) (λ e. cc) (λ e. cc)) (λ e. cc)
+    never_found (λ o. if is_met only o.meta.generation then Deleted else refused b name) NotFound (object_at b name) (λ o. never_either (is_met only o.meta.generation) Deleted (refused b name) (λ e. cc) (λ e. cc)) (λ e. cc)
 never_fault (copy from generation to stamp) b = never_found (λ o. Meta (new_object b to o.content o.meta.pairs stamp).meta) NotFound (object_of b from generation) (λ o e. cc) (λ e. cc)
 never_fault (list prefix slash max after) b = λ e. cc
 
@@ -99,7 +99,8 @@ state_at-pushed start log e =
     ∙ (fold-append effect start log (e ∷ []) ∙ ap (λ l. effect (fold effect start l) e) (sym (take-length log)))
 
 -- and is answered by it
-pub answer_at-pushed : (start : BucketState) (log : List LogEvent) (e : LogEvent) → answer_at start (log ++ e ∷ []) (length (log ++ e ∷ [])) ≡ Some (answer_by e.mode e.op (state_at start log (length log)))
+pub answer_at-pushed : (start : BucketState) (log : List LogEvent) (e : LogEvent)
+    → answer_at start (log ++ e ∷ []) (length (log ++ e ∷ [])) ≡ Some (answer_by e.mode e.op (state_at start log (length log)))
 answer_at-pushed start log e =
     let long : length (log ++ e ∷ []) ≡ suc (length log) = length-append log (e ∷ []) ∙ (omega arith) in
     let back : suc (length log) - 1 ≡ length log = omega arith in
@@ -109,7 +110,8 @@ answer_at-pushed start log e =
     ∙ ap (λ found. option_map (λ (x : LogEvent). answer_by x.mode x.op (state_at start log (length log))) found) (get_last log e)))
 
 -- a log that follows a script follows it with one more event that does
-pub FollowsScript-pushed : (script : List (ℕ × Mode)) (log : List LogEvent) (e : LogEvent) → FollowsScript script log → e.mode ≡ scripted_mode script (length log + 1) → FollowsScript script (log ++ e ∷ [])
+pub FollowsScript-pushed : (script : List (ℕ × Mode)) (log : List LogEvent) (e : LogEvent) → FollowsScript script log → e.mode ≡ scripted_mode script (length log + 1)
+    → FollowsScript script (log ++ e ∷ [])
 FollowsScript-pushed script log e follows mode zero = tt
 FollowsScript-pushed script log e follows mode (suc k) =
     each_pushed (λ j (x : LogEvent). x.mode ≡ scripted_mode script (suc j)) log e k (follows (suc k))

@@ -11,6 +11,7 @@ use Rattle.std.specs.Cmp.{tied_itself}
 use Rattle.std.specs.Cmp.Lexicographic.{nat_list_cmp_total}
 use Rattle.std.proofs.Math.Seq.{drop-append_seam}
 use Rattle.std.proofs.lemmas.Map.Keys.{sorted_head, sorted_tail}
+use Rattle.base_laws.proofs.Orders.{sorted_cons, le_less}
 use Rattle.bucket_api.specs.Metadata.{text_cmp}
 use Rattle.bucket_api.specs.Listing.{through_slash, key_of, in_order, keys_shown}
 use Rattle.bucket_api.proofs.TextOrder.{text_same, text_below, text_above, all_above}
@@ -46,21 +47,18 @@ below_in_order : (x : List ℕ) (ks : List (List ℕ)) → Below x ks → Below 
 below_in_order x [] all = tt
 below_in_order x (k ∷ ks) all = below_insert x k (in_order ks) all.0 (below_in_order x ks all.1)
 
-sorted_cons : (k : List ℕ) (ks : List (List ℕ)) → Below k ks → IsStrictlySortedBy text_cmp ks → IsStrictlySortedBy text_cmp (k ∷ ks)
-unfolding IsStrictlySortedBy
-sorted_cons k ks head tail = (head, tail)
-
 sorted_insert : (k : List ℕ) (ks : List (List ℕ)) → IsStrictlySortedBy text_cmp ks → IsStrictlySortedBy text_cmp (insert_key text_cmp ks k)
-sorted_insert k [] sorted = sorted_cons k [] tt sorted
+sorted_insert k [] sorted = sorted_cons text_cmp k [] tt sorted
 sorted_insert k (x ∷ ks) sorted = by (text_cmp k x) refl (sorted_insert k ks (sorted_tail text_cmp x ks sorted))
   where
     head : Below x ks
     head = sorted_head text_cmp x ks sorted
 
-    by : (o : Ordering) → text_cmp k x ≡ o → IsStrictlySortedBy text_cmp (insert_key text_cmp ks k) → IsStrictlySortedBy text_cmp (match_ordering o (k ∷ x ∷ ks) (x ∷ ks) (x ∷ insert_key text_cmp ks k))
-    by Less e later = sorted_cons k (x ∷ ks) (e, all_above k x ks e head) sorted
+    by : (o : Ordering) → text_cmp k x ≡ o → IsStrictlySortedBy text_cmp (insert_key text_cmp ks k)
+        → IsStrictlySortedBy text_cmp (match_ordering o (k ∷ x ∷ ks) (x ∷ ks) (x ∷ insert_key text_cmp ks k))
+    by Less e later = sorted_cons text_cmp k (x ∷ ks) (e, all_above k x ks e head) sorted
     by Equal e later = sorted
-    by Greater e later = sorted_cons x _ (below_insert x k ks (text_below k x e) head) later
+    by Greater e later = sorted_cons text_cmp x _ (below_insert x k ks (text_below k x e) head) later
 
 -- texts in order rise
 pub sorted_in_order : (ks : List (List ℕ)) → IsStrictlySortedBy text_cmp (in_order ks)
@@ -100,8 +98,10 @@ module _ (p : List ℕ → Bool) where
       by Equal e true pk true px later = simp (e, pk, px)
       by Equal e true pk false px later = absurd (true≢false (sym pk ∙ (alike e ∙ px)))
       by Equal e false pk u px later = simp (e, pk)
-      by Greater e true pk true px later = let h : filter p (insert_key text_cmp ks k) ≡ insert_key text_cmp (filter p ks) k = later ∙ ap (λ t. cond t (insert_key text_cmp (filter p ks) k) (filter p ks)) pk in simp (e, pk, px, h)
-      by Greater e true pk false px later = let h : filter p (insert_key text_cmp ks k) ≡ insert_key text_cmp (filter p ks) k = later ∙ ap (λ t. cond t (insert_key text_cmp (filter p ks) k) (filter p ks)) pk in simp (e, pk, px, h)
+      by Greater e true pk true px later = let h : filter p (insert_key text_cmp ks k) ≡ insert_key text_cmp (filter p ks) k = later
+          ∙ ap (λ t. cond t (insert_key text_cmp (filter p ks) k) (filter p ks)) pk in simp (e, pk, px, h)
+      by Greater e true pk false px later = let h : filter p (insert_key text_cmp ks k) ≡ insert_key text_cmp (filter p ks) k = later
+          ∙ ap (λ t. cond t (insert_key text_cmp (filter p ks) k) (filter p ks)) pk in simp (e, pk, px, h)
       by Greater e false pk u px later = let h : filter p (insert_key text_cmp ks k) ≡ filter p ks = later ∙ ap (λ t. cond t (insert_key text_cmp (filter p ks) k) (filter p ks)) pk in simp (e, pk, h)
 
   -- texts that pass, in order
@@ -109,7 +109,8 @@ module _ (p : List ℕ → Bool) where
   filter-in_order [] = refl
   filter-in_order (k ∷ ks) = filter_insert k (in_order ks) (sorted_in_order ks) ∙ by (p k) (filter-in_order ks)
     where
-      by : (t : Bool) → filter p (in_order ks) ≡ in_order (filter p ks) → cond t (insert_key text_cmp (filter p (in_order ks)) k) (filter p (in_order ks)) ≡ in_order (cond t (k ∷ filter p ks) (filter p ks))
+      by : (t : Bool) → filter p (in_order ks) ≡ in_order (filter p ks)
+          → cond t (insert_key text_cmp (filter p (in_order ks)) k) (filter p (in_order ks)) ≡ in_order (cond t (k ∷ filter p ks) (filter p ks))
       by true later = ap (λ xs. insert_key text_cmp xs k) later
       by false later = later
 
@@ -134,7 +135,8 @@ none_begins prefix name (m ∷ names) le other all = by (starts_with nat_eq m pr
     by false begins later = later
 
 -- nothing is shown where the first name is not below the prefix and does not begin with it
-pub nothing_shown : (prefix : List ℕ) (slash : Bool) (name : List ℕ) (names : List (List ℕ)) → is_le (text_cmp prefix name) ≡ true → starts_with nat_eq name prefix ≡ false → IsStrictlySortedBy text_cmp (name ∷ names) → keys_shown prefix slash (name ∷ names) ≡ []
+pub nothing_shown : (prefix : List ℕ) (slash : Bool) (name : List ℕ) (names : List (List ℕ)) → is_le (text_cmp prefix name) ≡ true → starts_with nat_eq name prefix ≡ false
+    → IsStrictlySortedBy text_cmp (name ∷ names) → keys_shown prefix slash (name ∷ names) ≡ []
 nothing_shown prefix slash name names le other sorted =
     ap (λ t. in_order (map (key_of prefix slash) (cond t (name ∷ beginning prefix names) (beginning prefix names)))) other
     ∙ ap (λ ns. in_order (map (key_of prefix slash) ns)) (none_begins prefix name names le other (sorted_head text_cmp name names sorted))
@@ -146,18 +148,21 @@ keys_above : (k : List ℕ) (prefix : List ℕ) (slash : Bool) (names : List (Li
 keys_above k prefix slash names all = below_in_order k (map (key_of prefix slash) (beginning prefix names)) all
 
 -- the key of a greater name that begins with the prefix is above a name that is its own key
-own_key_below : (prefix : List ℕ) (slash : Bool) (rest m : List ℕ) → (slash ≡ true → NoSlash rest) → starts_with nat_eq m prefix ≡ true → text_cmp (prefix ++ rest) m ≡ Less → text_cmp (prefix ++ rest) (key_of prefix slash m) ≡ Less
+own_key_below : (prefix : List ℕ) (slash : Bool) (rest m : List ℕ) → (slash ≡ true → NoSlash rest) → starts_with nat_eq m prefix ≡ true → text_cmp (prefix ++ rest) m ≡ Less
+    → text_cmp (prefix ++ rest) (key_of prefix slash m) ≡ Less
 own_key_below prefix false rest m none begins above = above
 own_key_below prefix true rest m none begins above =
     let split : m ≡ prefix ++ drop (length prefix) m = starts_split prefix m begins in
     let inner : text_cmp rest (drop (length prefix) m) ≡ Less = sym (cmp_front prefix rest (drop (length prefix) m)) ∙ (ap (λ x. text_cmp (prefix ++ rest) x) (sym split) ∙ above) in
     cmp_front prefix rest (through_slash (drop (length prefix) m)) ∙ through_above rest (drop (length prefix) m) (none refl) inner
 
-own_keys_below : (prefix : List ℕ) (slash : Bool) (rest : List ℕ) (names : List (List ℕ)) → (slash ≡ true → NoSlash rest) → Below (prefix ++ rest) names → Below (prefix ++ rest) (map (key_of prefix slash) (beginning prefix names))
+own_keys_below : (prefix : List ℕ) (slash : Bool) (rest : List ℕ) (names : List (List ℕ)) → (slash ≡ true → NoSlash rest) → Below (prefix ++ rest) names
+    → Below (prefix ++ rest) (map (key_of prefix slash) (beginning prefix names))
 own_keys_below prefix slash rest [] none all = tt
 own_keys_below prefix slash rest (m ∷ names) none all = by (starts_with nat_eq m prefix) refl (own_keys_below prefix slash rest names none all.1)
   where
-    by : (t : Bool) → starts_with nat_eq m prefix ≡ t → Below (prefix ++ rest) (map (key_of prefix slash) (beginning prefix names)) → Below (prefix ++ rest) (map (key_of prefix slash) (cond t (m ∷ beginning prefix names) (beginning prefix names)))
+    by : (t : Bool) → starts_with nat_eq m prefix ≡ t → Below (prefix ++ rest) (map (key_of prefix slash) (beginning prefix names))
+        → Below (prefix ++ rest) (map (key_of prefix slash) (cond t (m ∷ beginning prefix names) (beginning prefix names)))
     by true begins later = (own_key_below prefix slash rest m none begins all.0, later)
     by false begins later = later
 
@@ -166,22 +171,14 @@ own_key prefix false rest none = refl
 own_key prefix true rest none = ap (λ r. prefix ++ through_slash r) (drop-append_seam prefix rest) ∙ ap (λ r. prefix ++ r) (through_none rest (none refl))
 
 -- a first name that begins with the prefix and is its own key is shown, and then what the others show
-pub own_key_shown : (prefix : List ℕ) (slash : Bool) (rest : List ℕ) (names : List (List ℕ)) → (slash ≡ true → NoSlash rest) → IsStrictlySortedBy text_cmp ((prefix ++ rest) ∷ names) → keys_shown prefix slash ((prefix ++ rest) ∷ names) ≡ (prefix ++ rest) ∷ keys_shown prefix slash names
+pub own_key_shown : (prefix : List ℕ) (slash : Bool) (rest : List ℕ) (names : List (List ℕ)) → (slash ≡ true → NoSlash rest) → IsStrictlySortedBy text_cmp ((prefix ++ rest) ∷ names)
+    → keys_shown prefix slash ((prefix ++ rest) ∷ names) ≡ (prefix ++ rest) ∷ keys_shown prefix slash names
 own_key_shown prefix slash rest names none sorted =
     ap (λ t. in_order (map (key_of prefix slash) (cond t ((prefix ++ rest) ∷ beginning prefix names) (beginning prefix names)))) (starts_front prefix rest)
     ∙ (ap (λ k. insert_key text_cmp (keys_shown prefix slash names) k) (own_key prefix slash rest none)
     ∙ insert_first (prefix ++ rest) (keys_shown prefix slash names) (keys_above (prefix ++ rest) prefix slash names (own_keys_below prefix slash rest names none (sorted_head text_cmp (prefix ++ rest) names sorted))))
 
 -- ---- names that begin with a key that ends at a slash
-
--- what is above a text that is not below another is above that one
-pub le_less : (x y z : List ℕ) → is_le (text_cmp x y) ≡ true → text_cmp y z ≡ Less → text_cmp x z ≡ Less
-le_less x y z le less = by (text_cmp x y) refl le
-  where
-    by : (o : Ordering) → text_cmp x y ≡ o → is_le o ≡ true → text_cmp x z ≡ Less
-    by Less e le = nat_list_cmp_total.trans x y z e less
-    by Equal e le = nat_list_cmp_total.congr x y z e ∙ less
-    by Greater e le = cc
 
 -- a text that is below another is not above it
 pub le_from_less : (x y : List ℕ) → text_cmp x y ≡ Less → is_le (text_cmp x y) ≡ true
@@ -215,14 +212,16 @@ module _ (prefix q : List ℕ) (none : NoSlash q) where
   group_below : (m : List ℕ) → starts_with nat_eq m prefix ≡ true → is_le (text_cmp past m) ≡ true → text_cmp group (key_of prefix true m) ≡ Less
   group_below m begins le =
       let split : m ≡ prefix ++ drop (length prefix) m = starts_split prefix m begins in
-      let inner : is_le (text_cmp (q ++ 48 ∷ []) (drop (length prefix) m)) ≡ true = ap is_le (sym (cmp_front prefix (q ++ 48 ∷ []) (drop (length prefix) m))) ∙ (ap (λ x. is_le (text_cmp past x)) (sym split) ∙ le) in
+      let inner : is_le (text_cmp (q ++ 48 ∷ []) (drop (length prefix) m)) ≡ true = ap is_le (sym (cmp_front prefix (q ++ 48 ∷ []) (drop (length prefix) m)))
+      ∙ (ap (λ x. is_le (text_cmp past x)) (sym split) ∙ le) in
       cmp_front prefix (q ++ 47 ∷ []) (through_slash (drop (length prefix) m)) ∙ through_past q [] (drop (length prefix) m) none inner
 
   group_below_all : (names : List (List ℕ)) → AllByRecursion (λ m. is_le (text_cmp past m) ≡ true) names → Below group (map (key_of prefix true) (beginning prefix names))
   group_below_all [] all = tt
   group_below_all (n ∷ names) all = by (starts_with nat_eq n prefix) refl (group_below_all names all.1)
     where
-      by : (t : Bool) → starts_with nat_eq n prefix ≡ t → Below group (map (key_of prefix true) (beginning prefix names)) → Below group (map (key_of prefix true) (cond t (n ∷ beginning prefix names) (beginning prefix names)))
+      by : (t : Bool) → starts_with nat_eq n prefix ≡ t → Below group (map (key_of prefix true) (beginning prefix names))
+          → Below group (map (key_of prefix true) (cond t (n ∷ beginning prefix names) (beginning prefix names)))
       by true begins later = (group_below n begins all.0, later)
       by false begins later = later
 
@@ -234,14 +233,16 @@ module _ (prefix q : List ℕ) (none : NoSlash q) where
   regroup : (s : List ℕ) → group ++ s ≡ prefix ++ (q ++ 47 ∷ s)
   regroup s = append_assoc prefix (q ++ 47 ∷ []) s ∙ ap (λ r. prefix ++ r) (append_assoc q (47 ∷ []) s)
 
-  group_shown_once : (names : List (List ℕ)) → AllByRecursion (λ m. is_le (text_cmp group m) ≡ true) names → IsStrictlySortedBy text_cmp names → insert_key text_cmp (keys_shown prefix true names) group ≡ group ∷ keys_shown prefix true (names_from past names)
+  group_shown_once : (names : List (List ℕ)) → AllByRecursion (λ m. is_le (text_cmp group m) ≡ true) names → IsStrictlySortedBy text_cmp names
+      → insert_key text_cmp (keys_shown prefix true names) group ≡ group ∷ keys_shown prefix true (names_from past names)
   group_shown_once [] all sorted = refl
   group_shown_once (m ∷ names) all sorted = by (starts_with nat_eq m group) refl (group_shown_once names all.1 (sorted_tail text_cmp m names sorted))
     where
       head : Below m names
       head = sorted_head text_cmp m names sorted
 
-      by : (t : Bool) → starts_with nat_eq m group ≡ t → insert_key text_cmp (keys_shown prefix true names) group ≡ group ∷ keys_shown prefix true (names_from past names) → insert_key text_cmp (keys_shown prefix true (m ∷ names)) group ≡ group ∷ keys_shown prefix true (names_from past (m ∷ names))
+      by : (t : Bool) → starts_with nat_eq m group ≡ t → insert_key text_cmp (keys_shown prefix true names) group ≡ group ∷ keys_shown prefix true (names_from past names)
+          → insert_key text_cmp (keys_shown prefix true (m ∷ names)) group ≡ group ∷ keys_shown prefix true (names_from past (m ∷ names))
       by true begins later =
           let s : List ℕ = drop (length group) m in
           let split : m ≡ prefix ++ (q ++ 47 ∷ s) = starts_split group m begins ∙ regroup s in
@@ -261,7 +262,8 @@ module _ (prefix q : List ℕ) (none : NoSlash q) where
           insert_first group (keys_shown prefix true (m ∷ names)) below ∙ ap (λ ns. group ∷ keys_shown prefix true ns) (sym kept)
 
   -- a first name that begins with the key: the key is shown, and then what the names show that stand after all that begin with it
-  pub group_shown : (s : List ℕ) (names : List (List ℕ)) → IsStrictlySortedBy text_cmp ((prefix ++ (q ++ 47 ∷ s)) ∷ names) → keys_shown prefix true ((prefix ++ (q ++ 47 ∷ s)) ∷ names) ≡ group ∷ keys_shown prefix true (names_from past ((prefix ++ (q ++ 47 ∷ s)) ∷ names))
+  pub group_shown : (s : List ℕ) (names : List (List ℕ)) → IsStrictlySortedBy text_cmp ((prefix ++ (q ++ 47 ∷ s)) ∷ names)
+      → keys_shown prefix true ((prefix ++ (q ++ 47 ∷ s)) ∷ names) ≡ group ∷ keys_shown prefix true (names_from past ((prefix ++ (q ++ 47 ∷ s)) ∷ names))
   group_shown s names sorted =
       let name : List ℕ = prefix ++ (q ++ 47 ∷ s) in
       let head : Below name names = sorted_head text_cmp name names sorted in

@@ -16,6 +16,7 @@ use Rattle.std.proofs.lemmas.List.{take-append-drop, append-nil}
 use Rattle.std.proofs.lemmas.List.Elements.{filter-append, filter_map-append}
 use Rattle.std.proofs.lemmas.List.Kept.{IsStrictlySortedBy-filter}
 use Rattle.std.proofs.lemmas.Map.Keys.{sorted_head, sorted_tail}
+use Rattle.std.proofs.lemmas.List.{take_all}
 use Rattle.bucket_api.specs.declared.objects.Object.{Object}
 use Rattle.bucket_api.specs.Metadata.{Metadata, text_cmp}
 use Rattle.bucket_api.specs.PageData.{PageData}
@@ -41,13 +42,6 @@ module _ {X : Type 0} where
 
   pub length_left : (i : ℕ) (xs : List X) (x : X) (ys : List X) → drop i xs ≡ x ∷ ys → length xs ≡ i + (1 + length ys)
   length_left i xs x ys e = omega (arith, length-drop i xs, ap length e)
-
-  take_all : (n : ℕ) (xs : List X) → length xs ≤ n → take n xs ≡ xs
-  take_all n xs h = sym (append-nil (take n xs)) ∙ (ap (λ l. take n xs ++ l) (sym (none (drop n xs) (omega (arith, length-drop n xs)))) ∙ take-append-drop n xs)
-    where
-      none : (l : List X) → length l ≡ 0 → l ≡ []
-      none [] h = refl
-      none (x ∷ l) h = absurd (omega arith)
 
   last_of : (xs : List X) (x : X) (o : Option X) → last_or o (xs ++ x ∷ []) ≡ Some x
   last_of [] x o = refl
@@ -78,21 +72,25 @@ module _ (entries : List (List ℕ × Object)) (prefix : List ℕ) (slash : Bool
   one_item (Some m) = refl
 
   -- the items of one more key
-  pub items_more : (keys : List (List ℕ)) (key : List ℕ) → (page_showing entries prefix slash (keys ++ key ∷ []) None).items ≡ (page_showing entries prefix slash keys None).items ++ option_to_list (item key)
+  pub items_more : (keys : List (List ℕ)) (key : List ℕ)
+      → (page_showing entries prefix slash (keys ++ key ∷ []) None).items ≡ (page_showing entries prefix slash keys None).items ++ option_to_list (item key)
   items_more keys key = filter_map-append item keys (key ∷ []) ∙ ap (λ l. filter_map item keys ++ l) (one_item (item key))
 
   -- the prefixes of one more key
-  pub prefixes_more : (keys : List (List ℕ)) (key : List ℕ) → (page_showing entries prefix slash (keys ++ key ∷ []) None).prefixes ≡ (page_showing entries prefix slash keys None).prefixes ++ cond (is_prefix_key prefix slash key) (key ∷ []) []
+  pub prefixes_more : (keys : List (List ℕ)) (key : List ℕ)
+      → (page_showing entries prefix slash (keys ++ key ∷ []) None).prefixes ≡ (page_showing entries prefix slash keys None).prefixes ++ cond (is_prefix_key prefix slash key) (key ∷ []) []
   prefixes_more keys key = filter-append (is_prefix_key prefix slash) keys (key ∷ [])
 
   -- one more key on a page
-  pub closed_showing : (keys : List (List ℕ)) (key : List ℕ) (next : Option (List ℕ)) → with_key entries prefix slash (page_showing entries prefix slash keys None) key next ≡ page_showing entries prefix slash (keys ++ key ∷ []) next
+  pub closed_showing : (keys : List (List ℕ)) (key : List ℕ) (next : Option (List ℕ))
+      → with_key entries prefix slash (page_showing entries prefix slash keys None) key next ≡ page_showing entries prefix slash (keys ++ key ∷ []) next
   closed_showing keys key next =
       ap (λ is. record { items = is; prefixes = (page_showing entries prefix slash keys None).prefixes ++ cond (is_prefix_key prefix slash key) (key ∷ []) []; next = next }) (sym (items_more keys key))
       ∙ ap (λ qs. record { items = (page_showing entries prefix slash (keys ++ key ∷ []) None).items; prefixes = qs; next = next }) (sym (prefixes_more keys key))
 
   -- the page ends where no key is left
-  pub page_at_end : (max i : ℕ) (after : Option (List ℕ)) → i ≤ max → drop i (keys_after entries prefix slash after) ≡ [] → page_of entries prefix slash max after ≡ page_showing entries prefix slash (take i (keys_after entries prefix slash after)) None
+  pub page_at_end : (max i : ℕ) (after : Option (List ℕ)) → i ≤ max → drop i (keys_after entries prefix slash after) ≡ []
+      → page_of entries prefix slash max after ≡ page_showing entries prefix slash (take i (keys_after entries prefix slash after)) None
   page_at_end max i after le none =
       let keys : List (List ℕ) = keys_after entries prefix slash after in
       let all : take i keys ≡ keys = sym (append-nil (take i keys)) ∙ (ap (λ l. take i keys ++ l) (sym none) ∙ take-append-drop i keys) in
@@ -102,7 +100,8 @@ module _ (entries : List (List ℕ × Object)) (prefix : List ℕ) (slash : Bool
       ∙ ap (λ ks. page_showing entries prefix slash ks None) (take_all max keys few ∙ sym all)
 
   -- the page ends at its last key where more are left
-  pub page_at_max : (max i : ℕ) (after : Option (List ℕ)) (key : List ℕ) (later : List (List ℕ)) → i + 1 ≡ max → drop i (keys_after entries prefix slash after) ≡ key ∷ later → later ≢ [] → page_of entries prefix slash max after ≡ page_showing entries prefix slash (take i (keys_after entries prefix slash after) ++ key ∷ []) (Some key)
+  pub page_at_max : (max i : ℕ) (after : Option (List ℕ)) (key : List ℕ) (later : List (List ℕ)) → i + 1 ≡ max → drop i (keys_after entries prefix slash after) ≡ key ∷ later → later ≢ []
+      → page_of entries prefix slash max after ≡ page_showing entries prefix slash (take i (keys_after entries prefix slash after) ++ key ∷ []) (Some key)
   page_at_max max i after key later is_max left some =
       let keys : List (List ℕ) = keys_after entries prefix slash after in
       let shown : take max keys ≡ take i keys ++ key ∷ [] = ap (λ n. take n keys) (sym is_max) ∙ take_more i keys key later left in
@@ -117,7 +116,9 @@ module _ (entries : List (List ℕ × Object)) (prefix : List ℕ) (slash : Bool
       not_none (x ∷ l) h = omega arith
 
 -- the page closes with its last key
-pub page_closed : (entries : List (List ℕ × Object)) (prefix : List ℕ) (slash : Bool) (max i : ℕ) (after : Option (List ℕ)) → i + 1 ≡ max → (left : List (List ℕ)) → drop i (keys_after entries prefix slash after) ≡ left → closed entries prefix slash (page_showing entries prefix slash (take i (keys_after entries prefix slash after)) None) left ≡ page_of entries prefix slash max after
+pub page_closed : (entries : List (List ℕ × Object)) (prefix : List ℕ) (slash : Bool) (max i : ℕ) (after : Option (List ℕ)) → i + 1 ≡ max → (left : List (List ℕ))
+    → drop i (keys_after entries prefix slash after) ≡ left
+    → closed entries prefix slash (page_showing entries prefix slash (take i (keys_after entries prefix slash after)) None) left ≡ page_of entries prefix slash max after
 page_closed entries prefix slash max i after is_max [] e = sym (page_at_end entries prefix slash max i after (omega arith) e)
 page_closed entries prefix slash max i after is_max (key ∷ []) e =
     let keys : List (List ℕ) = keys_after entries prefix slash after in
@@ -196,7 +197,8 @@ module _ (entries : List (List ℕ × Object)) (prefix : List ℕ) (slash : Bool
   -- the page that is asked without a maximum, by the keys that it shows
   module _ (p : PageData) (ps : List PageData) where
     -- a page of some keys, before the page of those after them
-    join_showing : (next : Option (List ℕ)) (shown later : List (List ℕ)) → p ≡ page_showing entries prefix slash shown next → joined ps ≡ page_showing entries prefix slash later None → joined (p ∷ ps) ≡ page_showing entries prefix slash (shown ++ later) None
+    join_showing : (next : Option (List ℕ)) (shown later : List (List ℕ)) → p ≡ page_showing entries prefix slash shown next → joined ps ≡ page_showing entries prefix slash later None
+        → joined (p ∷ ps) ≡ page_showing entries prefix slash (shown ++ later) None
     join_showing next shown later is_page is_rest =
         ap (λ (q : PageData). record { items = q.items ++ (joined ps).items; prefixes = q.prefixes ++ (joined ps).prefixes; next = None }) is_page
         ∙ (ap (λ (r : PageData). record { items = (page_showing entries prefix slash shown next).items ++ r.items; prefixes = (page_showing entries prefix slash shown next).prefixes ++ r.prefixes; next = None }) is_rest
@@ -214,9 +216,11 @@ module _ (entries : List (List ℕ × Object)) (prefix : List ℕ) (slash : Bool
       goes : (next : Option (List ℕ)) → p.next ≡ next → MatchOption next (ps ≡ []) (λ key. ArePages ask (Some key) ps)
       goes next e = subst (λ o. MatchOption o (ps ≡ []) (λ key. ArePages ask (Some key) ps)) e are.1
 
-      by : (t : Bool) → nat_lt max (length keys) ≡ t → ((key : List ℕ) → ArePages ask (Some key) ps → joined ps ≡ whole_page entries prefix slash (Some key)) → joined (p ∷ ps) ≡ whole_page entries prefix slash after
+      by : (t : Bool) → nat_lt max (length keys) ≡ t → ((key : List ℕ) → ArePages ask (Some key) ps → joined ps ≡ whole_page entries prefix slash (Some key))
+          → joined (p ∷ ps) ≡ whole_page entries prefix slash after
       by false few later =
-          let is_page : p ≡ page_showing entries prefix slash (take max keys) None = are.0 ∙ ap (λ t. page_showing entries prefix slash (take max keys) (if t then last_or None (take max keys) else None)) few in
+          let is_page : p ≡ page_showing entries prefix slash (take max keys) None = are.0
+          ∙ ap (λ t. page_showing entries prefix slash (take max keys) (if t then last_or None (take max keys) else None)) few in
           let none : ps ≡ [] = goes None (ap (λ (q : PageData). q.next) is_page) in
           let all : take max keys ++ [] ≡ keys = append-nil (take max keys) ∙ take_all max keys (grind arith) in
           join_showing p ps None (take max keys) [] is_page (ap joined none) ∙ ap (λ ks. page_showing entries prefix slash ks None) all
@@ -228,28 +232,34 @@ module _ (entries : List (List ℕ × Object)) (prefix : List ℕ) (slash : Bool
               let cut = cut_last (take max keys) key e in
               let is_page : p ≡ page_showing entries prefix slash (take max keys) (Some key) = are.0 ∙ (ap (λ t. page_showing entries prefix slash (take max keys) (if t then last_or None (take max keys) else None)) many ∙ ap (λ o. page_showing entries prefix slash (take max keys) o) e) in
               let rest : ArePages ask (Some key) ps = goes (Some key) (ap (λ (q : PageData). q.next) is_page) in
-              let is_rest : joined ps ≡ page_showing entries prefix slash (drop max keys) None = later key rest ∙ ap (λ ks. page_showing entries prefix slash ks None) (keys_left_by after cut.0 key cut.1) in
+              let is_rest : joined ps ≡ page_showing entries prefix slash (drop max keys) None = later key rest
+              ∙ ap (λ ks. page_showing entries prefix slash ks None) (keys_left_by after cut.0 key cut.1) in
               join_showing p ps (Some key) (take max keys) (drop max keys) is_page is_rest ∙ ap (λ ks. page_showing entries prefix slash ks None) (take-append-drop max keys)
 
 -- ---- at what the code knows of its rows
 
 module _ (entries : List (List ℕ × Object)) (prefix : List ℕ) (slash : Bool) (i : ℕ) (keys : List (List ℕ)) (key : List ℕ) (later : List (List ℕ)) (left : drop i keys ≡ key ∷ later) where
   -- the items with one more key
-  pub items_step : (items new : List Metadata) (object : Option Object) → items ≡ (page_showing entries prefix slash (take i keys) None).items → object ≡ lookup (is_at (text_cmp key)) entries → new ≡ items ++ option_to_list (option_map (λ o. o.meta) object) → new ≡ (page_showing entries prefix slash (take (i + 1) keys) None).items
+  pub items_step : (items new : List Metadata) (object : Option Object) → items ≡ (page_showing entries prefix slash (take i keys) None).items → object ≡ lookup (is_at (text_cmp key)) entries
+      → new ≡ items ++ option_to_list (option_map (λ o. o.meta) object) → new ≡ (page_showing entries prefix slash (take (i + 1) keys) None).items
   items_step items new object so_far found more =
       more ∙ (ap (λ l. l ++ option_to_list (option_map (λ o. o.meta) object)) so_far
       ∙ (ap (λ (o : Option Object). (page_showing entries prefix slash (take i keys) None).items ++ option_to_list (option_map (λ o. o.meta) o)) found
       ∙ (sym (items_more entries prefix slash (take i keys) key) ∙ ap (λ ks. (page_showing entries prefix slash ks None).items) (sym (take_more i keys key later left)))))
 
   -- the prefixes with one more key
-  pub prefixes_step : (prefixes new : List (List ℕ)) (b : Bool) → prefixes ≡ (page_showing entries prefix slash (take i keys) None).prefixes → b ≡ is_prefix_key prefix slash key → new ≡ prefixes ++ cond b (key ∷ []) [] → new ≡ (page_showing entries prefix slash (take (i + 1) keys) None).prefixes
+  pub prefixes_step : (prefixes new : List (List ℕ)) (b : Bool) → prefixes ≡ (page_showing entries prefix slash (take i keys) None).prefixes → b ≡ is_prefix_key prefix slash key
+      → new ≡ prefixes ++ cond b (key ∷ []) [] → new ≡ (page_showing entries prefix slash (take (i + 1) keys) None).prefixes
   prefixes_step prefixes new b so_far test more =
       more ∙ (ap (λ l. l ++ cond b (key ∷ []) []) so_far
       ∙ (ap (λ t. (page_showing entries prefix slash (take i keys) None).prefixes ++ cond t (key ∷ []) []) test
       ∙ (sym (prefixes_more entries prefix slash (take i keys) key) ∙ ap (λ ks. (page_showing entries prefix slash ks None).prefixes) (sym (take_more i keys key later left)))))
 
 -- the page that closes is the page that was asked
-pub closes : (entries there : List (List ℕ × Object)) (prefix front : List ℕ) (slash by_slash : Bool) (max i : ℕ) (after : Option (List ℕ)) (items : List Metadata) (prefixes left : List (List ℕ)) → there ≡ entries → front ≡ prefix → by_slash ≡ slash → left ≡ drop i (keys_after entries prefix slash after) → items ≡ (page_showing entries prefix slash (take i (keys_after entries prefix slash after)) None).items → prefixes ≡ (page_showing entries prefix slash (take i (keys_after entries prefix slash after)) None).prefixes → i + 1 ≡ max
+pub closes : (entries there : List (List ℕ × Object)) (prefix front : List ℕ) (slash by_slash : Bool) (max i : ℕ) (after : Option (List ℕ)) (items : List Metadata) (prefixes left : List (List ℕ))
+    → there ≡ entries → front ≡ prefix → by_slash ≡ slash → left ≡ drop i (keys_after entries prefix slash after)
+    → items ≡ (page_showing entries prefix slash (take i (keys_after entries prefix slash after)) None).items
+    → prefixes ≡ (page_showing entries prefix slash (take i (keys_after entries prefix slash after)) None).prefixes → i + 1 ≡ max
     → closed there front by_slash (record { items = items; prefixes = prefixes; next = None }) left ≡ page_of entries prefix slash max after
 closes entries there prefix front slash by_slash max i after items prefixes left e f g is_left is_items is_prefixes is_max =
     ap (λ es. closed es front by_slash (record { items = items; prefixes = prefixes; next = None }) left) e

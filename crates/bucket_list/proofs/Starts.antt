@@ -17,7 +17,8 @@ use Rattle.bucket_api.proofs.TextOrder.{text_same, text_above, text_below}
 use Rattle.bucket_list.specs.Slash.{NoSlash, IsBeforeSlash}
 use Rattle.bucket_list.specs.Start.{StartsAfter}
 use Rattle.bucket_list.proofs.Texts.{cmp_front, le_front, starts_split, above_front, through_above, below_through, through_past, past_through}
-use Rattle.bucket_list.proofs.Keys.{beginning, filter-in_order, le_less}
+use Rattle.base_laws.proofs.Orders.{less_le, le_less}
+use Rattle.bucket_list.proofs.Keys.{beginning, filter-in_order}
 
 -- ---- the keys that are met from a bound on
 
@@ -31,14 +32,16 @@ keys_between {X} start (e ∷ es) = by (is_from_start text_cmp start e.0) (keys_
     by false later = later
 
 module _ (prefix : List ℕ) (slash : Bool) (after : Option (List ℕ)) (start : Bound (List ℕ)) (at : StartsAfter prefix slash after start) where
-  keys_inside : (names : List (List ℕ)) → filter (is_after after) (map (key_of prefix slash) (beginning prefix names)) ≡ map (key_of prefix slash) (beginning prefix (filter (is_from_start text_cmp start) names))
+  keys_inside : (names : List (List ℕ))
+      → filter (is_after after) (map (key_of prefix slash) (beginning prefix names)) ≡ map (key_of prefix slash) (beginning prefix (filter (is_from_start text_cmp start) names))
   keys_inside [] = refl
   keys_inside (m ∷ names) = by (starts_with nat_eq m prefix) refl (is_from_start text_cmp start m) refl (keys_inside names)
     where
       Same : List (List ℕ) → List (List ℕ) → Type 0
       Same xs ys = filter (is_after after) (map (key_of prefix slash) xs) ≡ map (key_of prefix slash) (beginning prefix ys)
 
-      by : (t : Bool) → starts_with nat_eq m prefix ≡ t → (u : Bool) → is_from_start text_cmp start m ≡ u → filter (is_after after) (map (key_of prefix slash) (beginning prefix names)) ≡ map (key_of prefix slash) (beginning prefix (filter (is_from_start text_cmp start) names))
+      by : (t : Bool) → starts_with nat_eq m prefix ≡ t → (u : Bool) → is_from_start text_cmp start m ≡ u
+          → filter (is_after after) (map (key_of prefix slash) (beginning prefix names)) ≡ map (key_of prefix slash) (beginning prefix (filter (is_from_start text_cmp start) names))
           → filter (is_after after) (map (key_of prefix slash) (cond (starts_with nat_eq m prefix) (m ∷ beginning prefix names) (beginning prefix names))) ≡ map (key_of prefix slash) (beginning prefix (cond (is_from_start text_cmp start m) (m ∷ filter (is_from_start text_cmp start) names) (filter (is_from_start text_cmp start) names)))
       by true front true inside later =
           let key : is_after after (key_of prefix slash m) ≡ true = at.keys m front ∙ inside in
@@ -54,15 +57,6 @@ module _ (prefix : List ℕ) (slash : Bool) (after : Option (List ℕ)) (start :
   keys_from_start names = filter-in_order (is_after after) (map (key_of prefix slash) (beginning prefix names)) ∙ ap in_order (keys_inside names)
 
 -- ---- the bounds
-
--- what is below a text that is not above another is below that one
-less_le : (x y z : List ℕ) → text_cmp x y ≡ Less → is_le (text_cmp y z) ≡ true → text_cmp x z ≡ Less
-less_le x y z less le = by (text_cmp y z) refl le
-  where
-    by : (o : Ordering) → text_cmp y z ≡ o → is_le o ≡ true → text_cmp x z ≡ Less
-    by Less e le = nat_list_cmp_total.trans x y z less e
-    by Equal e le = subst (λ w. text_cmp x w ≡ Less) (text_same y z e) less
-    by Greater e le = cc
 
 -- an order that does not turn back
 pub le_le : (x y z : List ℕ) → is_le (text_cmp x y) ≡ true → is_le (text_cmp y z) ≡ true → is_le (text_cmp x z) ≡ true
@@ -140,7 +134,8 @@ starts_past_group prefix q s none = record {
   keys = λ m front.
       let rest : List ℕ = drop (length prefix) m in
       let to_key : text_cmp (prefix ++ (q ++ 47 ∷ s)) (key_of prefix true m) ≡ text_cmp (q ++ 47 ∷ s) (through_slash rest) = cmp_front prefix (q ++ 47 ∷ s) (through_slash rest) in
-      let to_name : text_cmp (prefix ++ (q ++ 48 ∷ [])) m ≡ text_cmp (q ++ 48 ∷ []) rest = ap (λ x. text_cmp (prefix ++ (q ++ 48 ∷ [])) x) (starts_split prefix m front) ∙ cmp_front prefix (q ++ 48 ∷ []) rest in
+      let to_name : text_cmp (prefix ++ (q ++ 48 ∷ [])) m ≡ text_cmp (q ++ 48 ∷ []) rest = ap (λ x. text_cmp (prefix ++ (q ++ 48 ∷ [])) x) (starts_split prefix m front)
+      ∙ cmp_front prefix (q ++ 48 ∷ []) rest in
       ap is_lt to_key ∙ (both_ways (is_lt (text_cmp (q ++ 47 ∷ s) (through_slash rest))) (is_le (text_cmp (q ++ 48 ∷ []) rest))
       (λ h. past_through q s rest none (is_lt-less (text_cmp (q ++ 47 ∷ s) (through_slash rest)) h))
       (λ h. ap is_lt (through_past q s rest none h))
@@ -158,7 +153,8 @@ le_from_not_less x y other = by (text_cmp y x) refl
     by Greater e = absurd (other (text_below y x e))
 
 -- the bounds, at what the code knows of the texts
-pub starts_at_group : (prefix part rest after bound : List ℕ) (slash : Bool) → slash ≡ true → IsBeforeSlash rest part → after ≡ prefix ++ rest → bound ≡ prefix ++ (part ++ 48 ∷ []) → StartsAfter prefix slash (Some after) (Included bound)
+pub starts_at_group : (prefix part rest after bound : List ℕ) (slash : Bool) → slash ≡ true → IsBeforeSlash rest part → after ≡ prefix ++ rest → bound ≡ prefix ++ (part ++ 48 ∷ [])
+    → StartsAfter prefix slash (Some after) (Included bound)
 starts_at_group prefix part rest after bound slash by_slash before is_after is_bound = rw (by_slash, is_after, before.is, is_bound) (starts_past_group prefix part before.rest before.none)
 
 pub starts_at_name : (prefix rest after bound : List ℕ) (slash : Bool) → (slash ≡ true → NoSlash rest) → after ≡ prefix ++ rest → bound ≡ after → StartsAfter prefix slash (Some after) (Excluded bound)

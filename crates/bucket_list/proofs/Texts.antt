@@ -60,7 +60,8 @@ above_front [] m le none r = cc
 above_front (a ∷ p) [] le none r = cc
 above_front (a ∷ p) (b ∷ m) le none r = by (nat_cmp a b) refl le (above_front p m)
   where
-    by : (o : Ordering) → nat_cmp a b ≡ o → is_le (ordering_then o (text_cmp p m)) ≡ true → (is_le (text_cmp p m) ≡ true → starts_with nat_eq m p ≡ false → (r : List ℕ) → text_cmp (p ++ r) m ≡ Less) → ordering_then (nat_cmp a b) (text_cmp (p ++ r) m) ≡ Less
+    by : (o : Ordering) → nat_cmp a b ≡ o → is_le (ordering_then o (text_cmp p m)) ≡ true
+        → (is_le (text_cmp p m) ≡ true → starts_with nat_eq m p ≡ false → (r : List ℕ) → text_cmp (p ++ r) m ≡ Less) → ordering_then (nat_cmp a b) (text_cmp (p ++ r) m) ≡ Less
     by Less e le later = ap (λ o. ordering_then o (text_cmp (p ++ r) m)) e
     by Equal e le later =
         let same : nat_eq a b ≡ true = eq-eqb a b (exact_unsigned a b e) in
@@ -91,7 +92,9 @@ past_slash [] (b ∷ m) le none = by (nat_cmp 47 b) refl le
 past_slash (a ∷ q) [] le none = cc
 past_slash (a ∷ q) (b ∷ m) le none = by (nat_cmp a b) refl le (past_slash q m)
   where
-    by : (o : Ordering) → nat_cmp a b ≡ o → is_le (ordering_then o (text_cmp (q ++ 47 ∷ []) m)) ≡ true → (is_le (text_cmp (q ++ 47 ∷ []) m) ≡ true → starts_with nat_eq m (q ++ 47 ∷ []) ≡ false → is_le (text_cmp (q ++ 48 ∷ []) m) ≡ true) → is_le (ordering_then (nat_cmp a b) (text_cmp (q ++ 48 ∷ []) m)) ≡ true
+    by : (o : Ordering) → nat_cmp a b ≡ o → is_le (ordering_then o (text_cmp (q ++ 47 ∷ []) m)) ≡ true
+        → (is_le (text_cmp (q ++ 47 ∷ []) m) ≡ true → starts_with nat_eq m (q ++ 47 ∷ []) ≡ false → is_le (text_cmp (q ++ 48 ∷ []) m) ≡ true)
+        → is_le (ordering_then (nat_cmp a b) (text_cmp (q ++ 48 ∷ []) m)) ≡ true
     by Less e le later = ap (λ o. is_le (ordering_then o (text_cmp (q ++ 48 ∷ []) m))) e
     by Equal e le later =
         let same : nat_eq a b ≡ true = eq-eqb a b (exact_unsigned a b e) in
@@ -167,7 +170,8 @@ below_through (a ∷ r) (b ∷ m) h = by (b == 47) refl h (below_through r m)
     goes Equal h later = later h
     goes Greater h later = cc
 
-    by : (t : Bool) → (b == 47) ≡ t → text_cmp (a ∷ r) (if t then 47 ∷ [] else b ∷ through_slash m) ≡ Less → (text_cmp r (through_slash m) ≡ Less → text_cmp r m ≡ Less) → text_cmp (a ∷ r) (b ∷ m) ≡ Less
+    by : (t : Bool) → (b == 47) ≡ t → text_cmp (a ∷ r) (if t then 47 ∷ [] else b ∷ through_slash m) ≡ Less → (text_cmp r (through_slash m) ≡ Less → text_cmp r m ≡ Less)
+        → text_cmp (a ∷ r) (b ∷ m) ≡ Less
     by true slash h later = let same : b ≡ 47 = grind arith in ap (λ n. text_cmp (a ∷ r) (n ∷ m)) same ∙ ends (nat_cmp a 47) refl r h
     by false slash h later = goes (nat_cmp a b) h later
 
@@ -192,7 +196,8 @@ through_past (a ∷ q) s (b ∷ m) none le = by (nat_cmp a b) refl le (through_p
     first true slash e = let same : b ≡ 47 = grind arith in ap (λ o. ordering_then o (text_cmp (q ++ 47 ∷ s) [])) (ap (λ n. nat_cmp a n) (sym same) ∙ e)
     first false slash e = ap (λ o. ordering_then o (text_cmp (q ++ 47 ∷ s) (through_slash m))) e
 
-    by : (o : Ordering) → nat_cmp a b ≡ o → is_le (ordering_then o (text_cmp (q ++ 48 ∷ []) m)) ≡ true → (is_le (text_cmp (q ++ 48 ∷ []) m) ≡ true → text_cmp (q ++ 47 ∷ s) (through_slash m) ≡ Less) → text_cmp (a ∷ (q ++ 47 ∷ s)) (through_slash (b ∷ m)) ≡ Less
+    by : (o : Ordering) → nat_cmp a b ≡ o → is_le (ordering_then o (text_cmp (q ++ 48 ∷ []) m)) ≡ true
+        → (is_le (text_cmp (q ++ 48 ∷ []) m) ≡ true → text_cmp (q ++ 47 ∷ s) (through_slash m) ≡ Less) → text_cmp (a ∷ (q ++ 47 ∷ s)) (through_slash (b ∷ m)) ≡ Less
     by Less e le later = first (b == 47) refl e
     by Equal e le later =
         let other : (b == 47) ≡ false = ap (λ n. n == 47) (sym (exact_unsigned a b e)) ∙ none.0 in
@@ -234,7 +239,8 @@ past_through (a ∷ q) s (b ∷ m) none h = by (nat_cmp a b) refl (past_through 
         let g : Greater ≡ Less = sym (ap (λ o. ordering_then o (text_cmp (q ++ 47 ∷ s) (through_slash m))) e) ∙ h in
         cc
 
-    by : (o : Ordering) → nat_cmp a b ≡ o → (text_cmp (q ++ 47 ∷ s) (through_slash m) ≡ Less → is_le (text_cmp (q ++ 48 ∷ []) m) ≡ true) → is_le (ordering_then (nat_cmp a b) (text_cmp (q ++ 48 ∷ []) m)) ≡ true
+    by : (o : Ordering) → nat_cmp a b ≡ o → (text_cmp (q ++ 47 ∷ s) (through_slash m) ≡ Less → is_le (text_cmp (q ++ 48 ∷ []) m) ≡ true)
+        → is_le (ordering_then (nat_cmp a b) (text_cmp (q ++ 48 ∷ []) m)) ≡ true
     by Less e later = ap (λ o. is_le (ordering_then o (text_cmp (q ++ 48 ∷ []) m))) e
     by Equal e later =
         let other : (b == 47) ≡ false = ap (λ n. n == 47) (sym (exact_unsigned a b e)) ∙ none.0 in

@@ -28,9 +28,10 @@ use Rattle.bucket_list.specs.declared.walk.Key.{Key}
 use Rattle.bucket_list.specs.declared.walk.Key.TheVariants.{Name, Prefix}
 use Rattle.bucket_list.specs.Slash.{NoSlash, IsBeforeSlash}
 use Rattle.bucket_list.specs.Start.{StartsAfter}
-use Rattle.bucket_list.specs.Walking.{left_from, left, keys_left, IsAhead, IsWalk, Stops, key_text, IsKey}
+use Rattle.bucket_list.specs.Walking.{left_from, entries_left, keys_left, IsAhead, IsWalk, Stops, key_text, IsKey}
 use Rattle.bucket_list.proofs.Texts.{le_front, cmp_front, slash_below, starts_front, ends_none, ends_at}
-use Rattle.bucket_list.proofs.Keys.{Below, beginning, nothing_shown, own_key_shown, group_shown, group, past, names_from, le_less}
+use Rattle.base_laws.proofs.Orders.{less_le, le_less}
+use Rattle.bucket_list.proofs.Keys.{Below, beginning, nothing_shown, own_key_shown, group_shown, group, past, names_from}
 use Rattle.bucket_list.proofs.Starts.{keys_between, keys_from_start, le_le}
 
 abbrev Entries : Type 0
@@ -105,14 +106,6 @@ inside_above (Excluded a) x y h less = by (text_cmp a x) refl h
     by Greater e h = cc
 inside_above Unbounded x y h less = refl
 
-less_from_le : (x y z : List ℕ) → text_cmp x y ≡ Less → is_le (text_cmp y z) ≡ true → text_cmp x z ≡ Less
-less_from_le x y z less le = by (text_cmp y z) refl le
-  where
-    by : (o : Ordering) → text_cmp y z ≡ o → is_le o ≡ true → text_cmp x z ≡ Less
-    by Less e le = nat_list_cmp_total.trans x y z less e
-    by Equal e le = subst (λ w. text_cmp x w ≡ Less) (text_same y z e) less
-    by Greater e le = cc
-
 -- what the call that looks for the next name says
 abbrev pub Looks : List ℕ → Entries → Option Ahead → Entries → Type 0
 Looks prefix old ahead new = MatchOption ahead (Stops prefix old) (λ a. (old ≡ (a.name.now, a.object.now) ∷ new) × (a.name.now ≡ prefix ++ a.rest.now))
@@ -125,7 +118,8 @@ pub record Goes (es : Entries) (prefix : List ℕ) (slash : Bool) (ahead : Optio
   pub keys : keys_shown prefix slash (keys_of (left_from ahead rest)) ≡ keys_shown prefix slash names
 
 -- nothing is shown of what stops
-shows_nothing : (prefix : List ℕ) (slash : Bool) (es : Entries) → IsStrictlySortedBy text_cmp (keys_of es) → ((e : List ℕ × Object) (later : Entries) → es ≡ e ∷ later → is_le (text_cmp prefix e.0) ≡ true) → Stops prefix es → keys_shown prefix slash (keys_of es) ≡ []
+shows_nothing : (prefix : List ℕ) (slash : Bool) (es : Entries) → IsStrictlySortedBy text_cmp (keys_of es)
+    → ((e : List ℕ × Object) (later : Entries) → es ≡ e ∷ later → is_le (text_cmp prefix e.0) ≡ true) → Stops prefix es → keys_shown prefix slash (keys_of es) ≡ []
 shows_nothing prefix slash [] sorted from stops = refl
 shows_nothing prefix slash (e ∷ es) sorted from stops = nothing_shown prefix slash e.0 (keys_of es) (from e es refl) stops sorted
 
@@ -135,7 +129,8 @@ sorted_none = tt
 
 module _ (es : Entries) (sorted : IsStrictlySortedBy text_cmp (keys_of es)) (prefix : List ℕ) (slash : Bool) (start : Bound (List ℕ)) (from : (m : List ℕ) → is_from_start text_cmp start m ≡ true → is_le (text_cmp prefix m) ≡ true) where
   -- a walk that begins from a bound
-  pub goes_from : (old : Entries) (ahead : Option Ahead) (new : Entries) → old ≡ from_bound start es → Looks prefix old ahead new → Goes es prefix slash ahead new (filter (is_from_start text_cmp start) (keys_of es))
+  pub goes_from : (old : Entries) (ahead : Option Ahead) (new : Entries) → old ≡ from_bound start es → Looks prefix old ahead new
+      → Goes es prefix slash ahead new (filter (is_from_start text_cmp start) (keys_of es))
   goes_from old None new is looks =
       let sorted_old : IsStrictlySortedBy text_cmp (keys_of old) = subst (λ xs. IsStrictlySortedBy text_cmp (keys_of xs)) (sym is) (subst (IsStrictlySortedBy text_cmp) (sym (keys_between start es)) (IsStrictlySortedBy-filter text_cmp (is_from_start text_cmp start) (keys_of es) sorted)) in
       let nothing : keys_shown prefix slash (keys_of old) ≡ [] = shows_nothing prefix slash old sorted_old (λ e later first. from e.0 (and_true _ (head_passes (λ e. is_from_start text_cmp start e.0 && true) e later es (sym is ∙ first)))) looks in
@@ -154,7 +149,7 @@ module _ (es : Entries) (sorted : IsStrictlySortedBy text_cmp (keys_of es)) (pre
         found = subst (Found es) (sym here) (all_filter (λ (e : List ℕ × Object). is_from_start text_cmp start e.0 && true) (λ e. lookup (is_at (text_cmp e.0)) es ≡ Some e.1) es (found_all es sorted));
         next = record {
           begins = looks.1;
-          later = λ t above. ap (from_bound (Included t)) here ∙ filter-filter (λ (e : List ℕ × Object). is_from_start text_cmp start e.0 && true) (λ e. is_le (text_cmp t e.0) && true) (λ e h. true_and _ (inside_above start a.name.now e.0 inside (less_from_le a.name.now t e.0 above (and_true _ h)))) es;
+          later = λ t above. ap (from_bound (Included t)) here ∙ filter-filter (λ (e : List ℕ × Object). is_from_start text_cmp start e.0 && true) (λ e. is_le (text_cmp t e.0) && true) (λ e h. true_and _ (inside_above start a.name.now e.0 inside (less_le a.name.now t e.0 above (and_true _ h)))) es;
         };
         keys = ap (λ ns. keys_shown prefix slash ns) names;
       }
@@ -195,14 +190,16 @@ module _ (es : Entries) (prefix : List ℕ) (slash : Bool) (a : Ahead) (rest : E
       ∙ ap (λ n. n ∷ keys_shown prefix slash (keys_of rest)) (sym is.begins))
 
   -- the key of a name under a key that ends at a slash
-  pub shows_group : (part s : List ℕ) (none : NoSlash part) → slash ≡ true → a.rest.now ≡ part ++ 47 ∷ s → keys_shown prefix slash (keys_of ((a.name.now, a.object.now) ∷ rest)) ≡ group prefix part none ∷ keys_shown prefix slash (names_from (past prefix part none) (keys_of es))
+  pub shows_group : (part s : List ℕ) (none : NoSlash part) → slash ≡ true → a.rest.now ≡ part ++ 47 ∷ s
+      → keys_shown prefix slash (keys_of ((a.name.now, a.object.now) ∷ rest)) ≡ group prefix part none ∷ keys_shown prefix slash (names_from (past prefix part none) (keys_of es))
   shows_group part s none by_slash cut =
       let name : a.name.now ≡ prefix ++ (part ++ 47 ∷ s) = is.begins ∙ ap (λ r. prefix ++ r) cut in
       let shown : keys_shown prefix true (keys_of ((a.name.now, a.object.now) ∷ rest)) ≡ group prefix part none ∷ keys_shown prefix true (names_from (past prefix part none) (keys_of ((a.name.now, a.object.now) ∷ rest))) =
       subst (λ n. keys_shown prefix true (n ∷ keys_of rest) ≡ group prefix part none ∷ keys_shown prefix true (names_from (past prefix part none) (n ∷ keys_of rest))) (sym name) (group_shown prefix part none s (keys_of rest) (subst (λ n. IsStrictlySortedBy text_cmp (n ∷ keys_of rest)) name sorted)) in
       let below : text_cmp a.name.now (past prefix part none) ≡ Less = ap (λ n. text_cmp n (past prefix part none)) name ∙ (cmp_front prefix (part ++ 47 ∷ s) (part ++ 48 ∷ []) ∙ slash_below part s) in
       let same : names_from (past prefix part none) (keys_of ((a.name.now, a.object.now) ∷ rest)) ≡ names_from (past prefix part none) (keys_of es) =
-      sym (keys_between (Included (past prefix part none)) ((a.name.now, a.object.now) ∷ rest)) ∙ (ap keys_of (is.later (past prefix part none) below) ∙ keys_between (Included (past prefix part none)) es) in
+      sym (keys_between (Included (past prefix part none)) ((a.name.now, a.object.now) ∷ rest))
+      ∙ (ap keys_of (is.later (past prefix part none) below) ∙ keys_between (Included (past prefix part none)) es) in
       subst (λ t. keys_shown prefix t (keys_of ((a.name.now, a.object.now) ∷ rest)) ≡ group prefix part none ∷ keys_shown prefix t (names_from (past prefix part none) (keys_of es))) (sym by_slash)
       (shown ∙ ap (λ ns. group prefix part none ∷ keys_shown prefix true ns) same)
 
@@ -212,7 +209,7 @@ module _ (es : Entries) (prefix : List ℕ) (slash : Bool) (a : Ahead) (rest : E
 abbrev pub gone_on : Walk → Entries → Option Ahead → Walk
 gone_on w rest ahead = record { objects = w.objects; prefix = w.prefix; slash = w.slash; rest = rest; ahead = ahead }
 
-left_ahead : (w : Walk) (a : Ahead) → w.ahead ≡ Some a → left w ≡ (a.name.now, a.object.now) ∷ w.rest
+left_ahead : (w : Walk) (a : Ahead) → w.ahead ≡ Some a → entries_left w ≡ (a.name.now, a.object.now) ∷ w.rest
 left_ahead w a is = ap (λ x. left_from x w.rest) is
 
 -- a step leaves a walk, and gives the next key
@@ -244,17 +241,22 @@ module _ (w : Walk) (a : Ahead) (is : IsWalk w) (next : w.ahead ≡ Some a) wher
       let g : Goes w.objects.now.entries w.prefix.now w.slash ahead rest (keys_of w.rest) = goes_on w.objects.now.entries w.prefix.now w.slash a w.rest sorted_ahead found_ahead is_ahead ahead rest looks in
       record {
         walk = record { ordered = g.ordered; found = g.found; ahead = g.next };
-        keys = ap (λ xs. keys_shown w.prefix.now w.slash (keys_of xs)) (left_ahead w a next) ∙ (shows_name w.objects.now.entries w.prefix.now w.slash a w.rest sorted_ahead found_ahead is_ahead none ∙ ap (λ ks. a.name.now ∷ ks) (sym g.keys));
+        keys = ap (λ xs. keys_shown w.prefix.now w.slash (keys_of xs)) (left_ahead w a next)
+            ∙ (shows_name w.objects.now.entries w.prefix.now w.slash a w.rest sorted_ahead found_ahead is_ahead none ∙ ap (λ ks. a.name.now ∷ ks) (sym g.keys));
         key = record { object = sym found_ahead.0; prefix_key = name_is_no_prefix none };
       }
 
   -- past all names that stand under a key that ends at a slash
-  pub steps_group : (part key_bytes past_bytes : List ℕ) (object : Option (Bor Object)) → w.slash ≡ true → IsBeforeSlash a.rest.now part → key_bytes ≡ w.prefix.now ++ (part ++ 47 ∷ []) → past_bytes ≡ w.prefix.now ++ (part ++ 48 ∷ []) → option_copied object ≡ lookup (is_at (text_cmp key_bytes)) w.objects.now.entries → IsStrictlySortedBy text_cmp (keys_of w.objects.now.entries) → (old rest : Entries) (ahead : Option Ahead) → old ≡ from_bound (Included past_bytes) w.objects.now.entries → Looks w.prefix.now old ahead rest → Steps w (Prefix key_bytes object) rest ahead
+  pub steps_group : (part key_bytes past_bytes : List ℕ) (object : Option (Bor Object)) → w.slash ≡ true → IsBeforeSlash a.rest.now part → key_bytes ≡ w.prefix.now ++ (part ++ 47 ∷ [])
+      → past_bytes ≡ w.prefix.now ++ (part ++ 48 ∷ []) → option_copied object ≡ lookup (is_at (text_cmp key_bytes)) w.objects.now.entries
+      → IsStrictlySortedBy text_cmp (keys_of w.objects.now.entries) → (old rest : Entries) (ahead : Option Ahead) → old ≡ from_bound (Included past_bytes) w.objects.now.entries
+      → Looks w.prefix.now old ahead rest → Steps w (Prefix key_bytes object) rest ahead
   steps_group part key_bytes past_bytes object by_slash before is_key is_past got sorted old rest ahead is_old looks =
       let under : List ℕ = past w.prefix.now part before.none in
       let g : Goes w.objects.now.entries w.prefix.now w.slash ahead rest (names_from under (keys_of w.objects.now.entries)) =
       goes_from w.objects.now.entries sorted w.prefix.now w.slash (Included under) (λ m h. le_le w.prefix.now under m (le_front w.prefix.now (part ++ 48 ∷ [])) h) old ahead rest (is_old ∙ ap (λ t. from_bound (Included t) w.objects.now.entries) is_past) looks in
-      let ends : is_prefix_key w.prefix.now true key_bytes ≡ true = ap (λ n. ends_in_slash (drop (length w.prefix.now) n)) is_key ∙ (ap ends_in_slash (drop-append_seam w.prefix.now (part ++ 47 ∷ [])) ∙ ends_at part) in
+      let ends : is_prefix_key w.prefix.now true key_bytes ≡ true = ap (λ n. ends_in_slash (drop (length w.prefix.now) n)) is_key
+      ∙ (ap ends_in_slash (drop-append_seam w.prefix.now (part ++ 47 ∷ [])) ∙ ends_at part) in
       record {
         walk = record { ordered = g.ordered; found = g.found; ahead = g.next };
         keys = ap (λ xs. keys_shown w.prefix.now w.slash (keys_of xs)) (left_ahead w a next) ∙ (shows_group w.objects.now.entries w.prefix.now w.slash a w.rest sorted_ahead found_ahead is_ahead part before.rest before.none by_slash before.is ∙ (ap (λ k. k ∷ keys_shown w.prefix.now w.slash (names_from under (keys_of w.objects.now.entries))) (sym is_key) ∙ ap (λ ks. key_bytes ∷ ks) (sym g.keys)));
@@ -266,7 +268,8 @@ pub record Begins (w : Walk) (after : Option (List ℕ)) : Type 0 where
   pub walk : IsWalk w
   pub keys : keys_left w ≡ keys_after w.objects.now.entries w.prefix.now w.slash after
 
-pub begins : (w : Walk) (after : Option (List ℕ)) (start : Bound (List ℕ)) (old : Entries) → StartsAfter w.prefix.now w.slash after start → IsStrictlySortedBy text_cmp (keys_of w.objects.now.entries) → old ≡ from_bound start w.objects.now.entries → Looks w.prefix.now old w.ahead w.rest → Begins w after
+pub begins : (w : Walk) (after : Option (List ℕ)) (start : Bound (List ℕ)) (old : Entries) → StartsAfter w.prefix.now w.slash after start
+    → IsStrictlySortedBy text_cmp (keys_of w.objects.now.entries) → old ≡ from_bound start w.objects.now.entries → Looks w.prefix.now old w.ahead w.rest → Begins w after
 begins w after start old at sorted is_old looks =
     let g : Goes w.objects.now.entries w.prefix.now w.slash w.ahead w.rest (filter (is_from_start text_cmp start) (keys_of w.objects.now.entries)) = goes_from w.objects.now.entries sorted w.prefix.now w.slash start at.from old w.ahead w.rest is_old looks in
     record {
@@ -295,7 +298,8 @@ more w is r e = by w.ahead refl
     by (Some a) some =
         let begins : starts_with nat_eq a.name.now w.prefix.now ≡ true = ap (λ n. starts_with nat_eq n w.prefix.now) (is_ahead w a is some).begins ∙ starts_front w.prefix.now a.rest.now in
         let shown : keys_left w ≡ insert_key text_cmp (keys_shown w.prefix.now w.slash (keys_of w.rest)) (key_of w.prefix.now w.slash a.name.now) =
-        ap (λ xs. keys_shown w.prefix.now w.slash (keys_of xs)) (left_ahead w a some) ∙ ap (λ t. in_order (map (key_of w.prefix.now w.slash) (cond t (a.name.now ∷ beginning w.prefix.now (keys_of w.rest)) (beginning w.prefix.now (keys_of w.rest))))) begins in (
+        ap (λ xs. keys_shown w.prefix.now w.slash (keys_of xs)) (left_ahead w a some)
+        ∙ ap (λ t. in_order (map (key_of w.prefix.now w.slash) (cond t (a.name.now ∷ beginning w.prefix.now (keys_of w.rest)) (beginning w.prefix.now (keys_of w.rest))))) begins in (
           λ _ nothing. insert_some (key_of w.prefix.now w.slash a.name.now) (keys_shown w.prefix.now w.slash (keys_of w.rest)) (sym shown ∙ nothing),
           λ _. e ∙ ap is_some some,
         )

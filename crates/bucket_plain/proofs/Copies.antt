@@ -26,7 +26,8 @@ insert_last (e ∷ done) later k v sorted =
     among (x ∷ es) all = among es all.1
 
 -- the next entry of a map in order, put into the entries so far
-pub copy_step : (all done left later new : Entries) (k l : List ℕ) (v w : Object) → IsStrictlySortedBy text_cmp (keys_of all) → done ++ left ≡ all → left ≡ (k, v) ∷ later → l ≡ k → w ≡ v → new ≡ insert_entry text_cmp done l w → new ++ later ≡ all
+pub copy_step : (all done left later new : Entries) (k l : List ℕ) (v w : Object) → IsStrictlySortedBy text_cmp (keys_of all) → done ++ left ≡ all → left ≡ (k, v) ∷ later → l ≡ k → w ≡ v
+    → new ≡ insert_entry text_cmp done l w → new ++ later ≡ all
 copy_step all done left later new k l v w sorted so_far next same_key same_value is =
     let here : done ++ (k, v) ∷ later ≡ all = ap (λ es. done ++ es) (sym next) ∙ so_far in
     let put : new ≡ done ++ (k, v) ∷ [] = is ∙ (ap (λ n. insert_entry text_cmp done n w) same_key ∙ (ap (λ o. insert_entry text_cmp done k o) same_value ∙ insert_last done later k v (subst (λ es. IsStrictlySortedBy text_cmp (keys_of es)) (sym here) sorted))) in

@@ -11,7 +11,7 @@ use Rattle.object_names.specs.declared.component.NameFault.{NameFault}
 use Rattle.object_names.proofs.ComponentLemmas.{refutes, no_fault-from_IsComponent}
 use Rattle.object_names.proofs.EndLemmas.{ends_in-push, no_slash-end}
 use Rattle.object_names.proofs.ShownLemmas.{component-can_show}
-use Rattle.dir_listing.specs.Names.{shows_part, Misses, listed_name, FitsRole}
+use Rattle.dir_listing.specs.Names.{shows_part, HasNoPart, listed_name, FitsRole}
 use Rattle.dir_listing.specs.Pages.{none_listed}
 use Rattle.dir_listing.specs.Steps.{is_placeholder, is_file_object}
 use Rattle.dir_listing.specs.declared.roles.Role.{Role}
@@ -41,12 +41,12 @@ no_slash_behind (x ∷ prefix) [] part p e = let same = ap length e in omega (ar
 no_slash_behind (x ∷ prefix) (y ∷ path) part p e = no_slash_behind prefix path part p (ap tail e)
 
 -- ---- what a name leaves
-pub no_component : (prefix path rest : List ℕ) (fault : NameFault) → path ≡ prefix ++ rest → name_fault rest ≡ Some fault → Misses prefix path
+pub no_component : (prefix path rest : List ℕ) (fault : NameFault) → path ≡ prefix ++ rest → name_fault rest ≡ Some fault → HasNoPart prefix path
 no_component prefix path rest fault is r part can e =
     let same : part ≡ rest = append_cancel_left prefix part rest (sym e ∙ is) in
     false≢true (ap is_some (sym (subst (λ name. name_fault name ≡ None) same (no_fault-from_IsComponent part (component-shows_part prefix part can))) ∙ r))
 
-pub no_directory : (prefix path name : List ℕ) → name ≡ path ++ 47 ∷ [] → Misses prefix path → FitsRole prefix NoEntry name
+pub no_directory : (prefix path name : List ℕ) → name ≡ path ++ 47 ∷ [] → HasNoPart prefix path → FitsRole prefix NoEntry name
 no_directory prefix path name is miss part can = (
   λ e. no_slash_behind prefix path part (component-shows_part prefix part can) (sym e ∙ is),
   λ e. miss part can (append_cancel_right path (prefix ++ part) (47 ∷ []) (sym is ∙ e)),
@@ -54,7 +54,8 @@ no_directory prefix path name is miss part can = (
 
 -- ---- whose name is listed
 -- a test that passes at one part alone
-one_part : (prefix text part name : List ℕ) (key : List ℕ → List ℕ) → shows_part prefix text ≡ true → name ≡ key text → (key part ≡ key text → part ≡ text) → (shows_part prefix part && bytes_eq (key part) name) ≡ bytes_eq text part
+one_part : (prefix text part name : List ℕ) (key : List ℕ → List ℕ) → shows_part prefix text ≡ true → name ≡ key text → (key part ≡ key text → part ≡ text)
+    → (shows_part prefix part && bytes_eq (key part) name) ≡ bytes_eq text part
 one_part prefix text part name key can is one =
     elim (bytes_eq text part) as (λ b. bytes_eq text part ≡ b → (shows_part prefix part && bytes_eq (key part) name) ≡ b) [
       | true ↦ λ t. let same : text ≡ part = (bytes_eq-Decides text part).0 t in
@@ -65,7 +66,8 @@ one_part prefix text part name key can is one =
     ] refl
 
 -- the placeholder of a part that can be shown is listed exactly where its part was kept of a placeholder
-pub names_dir : (prefix part text : List ℕ) (role : Role) → FitsRole prefix role text → (shows_part prefix part && bytes_eq ((prefix ++ part) ++ 47 ∷ []) (listed_name prefix role text)) ≡ (is_placeholder role && bytes_eq text part)
+pub names_dir : (prefix part text : List ℕ) (role : Role) → FitsRole prefix role text
+    → (shows_part prefix part && bytes_eq ((prefix ++ part) ++ 47 ∷ []) (listed_name prefix role text)) ≡ (is_placeholder role && bytes_eq text part)
 names_dir prefix part text Placeholder fits =
     one_part prefix text part ((prefix ++ text) ++ 47 ∷ []) (λ x. (prefix ++ x) ++ 47 ∷ []) fits refl
     (λ e. append_cancel_left prefix part text (append_cancel_right (prefix ++ part) (prefix ++ text) (47 ∷ []) e))
@@ -76,7 +78,8 @@ names_dir prefix part text NoEntry fits =
     not_both (shows_part prefix part) _ (bytes_eq-Decides ((prefix ++ part) ++ 47 ∷ []) text) (λ c e. (fits part c).1 (sym e))
 
 -- and the same for the object of a file
-pub names_file : (prefix part text : List ℕ) (role : Role) → FitsRole prefix role text → (shows_part prefix part && bytes_eq (prefix ++ part) (listed_name prefix role text)) ≡ (is_file_object role && bytes_eq text part)
+pub names_file : (prefix part text : List ℕ) (role : Role) → FitsRole prefix role text
+    → (shows_part prefix part && bytes_eq (prefix ++ part) (listed_name prefix role text)) ≡ (is_file_object role && bytes_eq text part)
 names_file prefix part text Placeholder fits =
     not_both (shows_part prefix part) _ (bytes_eq-Decides (prefix ++ part) ((prefix ++ text) ++ 47 ∷ []))
     (λ c e. no_slash_behind prefix (prefix ++ text) part (component-shows_part prefix part c) e)

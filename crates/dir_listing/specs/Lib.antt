@@ -2,4 +2,5 @@
 pub mod Kinds
 pub mod Names
 pub mod Pages
+pub mod PathNames
 pub mod Steps

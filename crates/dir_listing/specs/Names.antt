@@ -14,11 +14,11 @@ abbrev pub shows_part : List ℕ → List ℕ → Bool
 shows_part prefix part = can_show (none_listed prefix false) part
 
 -- the part that a path leaves after the prefix, where it can be shown
-abbrev pub Misses : List ℕ → List ℕ → Type 0
-Misses prefix path = (part : List ℕ) → shows_part prefix part ≡ true → path ≢ prefix ++ part
+abbrev pub HasNoPart : List ℕ → List ℕ → Type 0
+HasNoPart prefix path = (part : List ℕ) → shows_part prefix part ≡ true → path ≢ prefix ++ part
 
-abbrev pub Finds : List ℕ → List ℕ → List ℕ → Type 0
-Finds prefix path part = (shows_part prefix part ≡ true) × (path ≡ prefix ++ part)
+abbrev pub IsPartOf : List ℕ → List ℕ → List ℕ → Type 0
+IsPartOf prefix path part = (shows_part prefix part ≡ true) × (path ≡ prefix ++ part)
 
 -- the listed name, of what is kept of it
 abbrev pub listed_name : List ℕ → Role → List ℕ → List ℕ
@@ -42,13 +42,13 @@ abbrev pub FitsAll : List ℕ → List Kept → Type 0
 FitsAll prefix names = All (λ kept. FitsRole prefix kept.role kept.text) names
 
 -- what is kept of a listed item
-pub record Keeps (prefix : List ℕ) (item : List ℕ × NodeKind) (kept : Kept) : Type 0 where
+pub record IsKeptOf (prefix : List ℕ) (item : List ℕ × NodeKind) (kept : Kept) : Type 0 where
   pub tells : told prefix kept ≡ item
   pub fits : FitsRole prefix kept.role kept.text
 
 -- what was kept, as what was listed
-abbrev pub listed_of : List ℕ → List Kept → List Kept → Bool → Listed
-listed_of prefix items prefixes implicit = record { prefix = prefix; items = map (told prefix) items; prefixes = map (kept_name prefix) prefixes; implicit = implicit }
+abbrev pub listed_from : List ℕ → List Kept → List Kept → Bool → Listed
+listed_from prefix items prefixes implicit = record { prefix = prefix; items = map (told prefix) items; prefixes = map (kept_name prefix) prefixes; implicit = implicit }
 
 -- what holds of all that is kept
 pub record Fit (prefix : List ℕ) (items prefixes : List Kept) : Type 0 where

@@ -1,6 +1,6 @@
 -- How the entries of a directory come together in a map from shown names to kinds: first the directories, then file by
 -- file the files and symlinks.
-use Rattle.std.specs.Prelude.{◌≡◌, ℕ, Bool, true, false, ◌&&◌, ◌||◌, List, map, filter, Option, Some, None, String, if◌then◌else◌, All}
+use Rattle.std.specs.Prelude.{◌≡◌, ℕ, Bool, true, false, ◌&&◌, ◌||◌, List, map, filter, Option, Some, None, is_none, String, if◌then◌else◌, All}
 use Rattle.std.specs.BTreeMap.{BTreeMap, get_by_text}
 use Rattle.std.specs.List.{list_any}
 use Rattle.std.specs.Str.{bytes_eq}
@@ -48,7 +48,7 @@ is_dir_kind kind = false
 -- a file or symlink under a name without the suffix
 pub record IsFile (file : DirItem) : Type 0 where
   pub component : IsComponent file.shown
-  pub plain : is_dir_kind (Some file.kind) ≡ false
+  pub no_dir : is_dir_kind (Some file.kind) ≡ false
 
 -- the kind that the first file of this part has
 abbrev pub file_in : List DirItem → List ℕ → Option NodeKind
@@ -83,6 +83,14 @@ module _ {Y : Type 0} where
   -- the directories of these prefixes were, where prefixes make directories
   abbrev pub PutsDirs : List Kept → Bool → BTreeMap (String Y) NodeKind → BTreeMap (String Y) NodeKind → Type 0
   PutsDirs prefixes implicit old new = (shown : List ℕ) → get_by_text new shown ≡ (if implicit && kept_dir prefixes shown then Some Dir else get_by_text old shown)
+
+  -- a kind was put under a name
+  abbrev pub Puts : List ℕ → NodeKind → BTreeMap (String Y) NodeKind → BTreeMap (String Y) NodeKind → Type 0
+  Puts name kind old new = (shown : List ℕ) → get_by_text new shown ≡ (if bytes_eq name shown then Some kind else get_by_text old shown)
+
+  -- a kind was put under a name, where nothing stood there
+  abbrev pub PutsFirst : List ℕ → NodeKind → BTreeMap (String Y) NodeKind → BTreeMap (String Y) NodeKind → Type 0
+  PutsFirst name kind old new = (shown : List ℕ) → get_by_text new shown ≡ (if is_none (get_by_text old name) && bytes_eq name shown then Some kind else get_by_text old shown)
 
   -- this file was put into the map, whatever directories and files it had
   abbrev pub PutsFile : List ℕ → NodeKind → BTreeMap (String Y) NodeKind → BTreeMap (String Y) NodeKind → Type 0

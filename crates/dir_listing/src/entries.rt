@@ -1,8 +1,9 @@
-ghost use Rattle.std.specs.Prelude.{◌≡◌, ◌++◌, ◌∷◌, [], ◌&&◌, Some, None, IfOk, OnOk, string_bytes, if◌then◌else◌};
+//! How the entries of a directory come together in a map.
+ghost use Rattle.std.specs.Prelude.{◌≡◌, ◌++◌, ◌∷◌, [], ◌&&◌, true, Some, None, IfOk, OnOk, string_bytes, if◌then◌else◌};
 ghost use Rattle.std.specs.BTreeMap.{get_by_text};
 ghost use Rattle.object_names.specs.Paths.{shown_of};
 ghost use Rattle.object_names.specs.declared.shown.NodeKind.TheVariants.{Dir};
-ghost use Rattle.dir_listing.specs.Steps.{Has, PutsDir, PutsDirs, PutsFile, PutsFiles, is_dir_kind, kept_dir, kept_files};
+ghost use Rattle.dir_listing.specs.Steps.{Has, PutsDir, PutsDirs, Puts, PutsFirst, PutsFile, PutsFiles, is_dir_kind, kept_dir, kept_files};
 
 use crate::kept::Kept;
 use crate::roles::Role;
@@ -92,40 +93,71 @@ pub(crate) fn put_files(
 }
 
 /// Puts a file or symlink into the map, if no earlier one has its name: under its name, with the suffix where a directory
-/// of this name stands there already.
+/// of this name stands there already. Where nothing does, the map is searched twice; each name is moved.
 fn put_file(entries: &mut BTreeMap<String, NodeKind>, file: DirItem) -> Result<(), NoMemory>
     ensures ok { OnOk result (PutsFile file.shown file.kind entries.old entries.new) }
 {
-    let hidden = is_dir(entries, file.shown.as_str());
-    let shown = with_suffix(file.shown.into_string(), hidden)?;
-    if entries.contains_key(shown.as_str()) {
-        return Ok(());
+    let there = kind_at(entries, file.shown.as_str());
+    let name = file.shown.into_string();
+    let Some(there) = there else {
+        return put(entries, name, file.kind);
+    };
+    if is_dir(there) {
+        let hidden = with_suffix(name)?;
+        return put_first(entries, hidden, file.kind);
     }
-    entries.insert(shown, file.kind)?;
     Ok(())
 }
 
-/// The same name, with the suffix behind it where it is to have it.
-fn with_suffix(name: String, suffix: bool) -> Result<String, NoMemory>
-    ensures ok { IfOk result (λ shown. string_bytes shown ≡ shown_of (string_bytes name) suffix) }
+/// Whether the kind is a directory's.
+fn is_dir(kind: NodeKind) -> bool
+    ensures { result ≡ is_dir_kind (Some kind) }
 {
-    let mut shown = name;
-    if suffix {
-        shown.push('\n')?;
-    }
-    Ok(shown)
-}
-
-/// Whether a directory stands under this name.
-fn is_dir(entries: &BTreeMap<String, NodeKind>, name: &str) -> bool
-    ensures { result ≡ is_dir_kind (get_by_text entries.now name.now) }
-{
-    let Some(kind) = entries.get(name).copied() else {
-        return false;
-    };
     match kind {
         NodeKind::Dir => true,
         NodeKind::File => false,
         NodeKind::Symlink => false,
     }
+}
+
+/// What stands under a name.
+fn kind_at(entries: &BTreeMap<String, NodeKind>, name: &str) -> Option<NodeKind>
+    ensures { result ≡ get_by_text entries.now name.now }
+{
+    entries.get(name).copied()
+}
+
+/// Puts a kind under a name.
+fn put(
+    entries: &mut BTreeMap<String, NodeKind>,
+    name: String,
+    kind: NodeKind,
+) -> Result<(), NoMemory>
+    ensures ok { OnOk result (Puts (string_bytes name) kind entries.old entries.new) }
+{
+    entries.insert(name, kind)?;
+    Ok(())
+}
+
+/// Puts a kind under a name, where nothing stands there.
+fn put_first(
+    entries: &mut BTreeMap<String, NodeKind>,
+    name: String,
+    kind: NodeKind,
+) -> Result<(), NoMemory>
+    ensures ok { OnOk result (PutsFirst (string_bytes name) kind entries.old entries.new) }
+{
+    match kind_at(entries, name.as_str()) {
+        None => put(entries, name, kind),
+        Some(_) => Ok(()),
+    }
+}
+
+/// The same name, with the suffix behind it.
+fn with_suffix(name: String) -> Result<String, NoMemory>
+    ensures ok { IfOk result (λ shown. string_bytes shown ≡ shown_of (string_bytes name) true) }
+{
+    let mut shown = name;
+    shown.push('\n')?;
+    Ok(shown)
 }

@@ -1,6 +1,7 @@
+//! What is kept of a listed name.
 ghost use Rattle.std.specs.Prelude.{◌≡◌, map, IfOk};
 ghost use Rattle.dir_listing.specs.Kinds.{file_or_link};
-ghost use Rattle.dir_listing.specs.Names.{told, kept_name, FitsAll, Keeps};
+ghost use Rattle.dir_listing.specs.Names.{told, kept_name, FitsAll, IsKeptOf};
 ghost use Rattle.dir_listing.specs.Pages.{item_of};
 
 use crate::kinds::has_target;
@@ -67,7 +68,7 @@ pub(crate) fn kept_prefixes(
 
 /// What is kept of an object.
 fn keep_item(alloc: Global, prefix: &[u8], meta: &Meta) -> Result<Kept, NoMemory>
-    ensures ok { IfOk result (λ kept. Keeps prefix.now (item_of meta.now) kept) }
+    ensures ok { IfOk result (λ kept. IsKeptOf prefix.now (item_of meta.now) kept) }
 {
     let link = has_target(meta.pairs.as_slice());
     keep(alloc, prefix, &meta.name, link)
@@ -75,7 +76,7 @@ fn keep_item(alloc: Global, prefix: &[u8], meta: &Meta) -> Result<Kept, NoMemory
 
 /// What is kept of a listed name: here it is copied.
 fn keep(alloc: Global, prefix: &[u8], name: &Text, link: bool) -> Result<Kept, NoMemory>
-    ensures ok { IfOk result (λ kept. Keeps prefix.now (name.now, file_or_link link) kept) }
+    ensures ok { IfOk result (λ kept. IsKeptOf prefix.now (name.now, file_or_link link) kept) }
 {
     let (role, part) = role_of(prefix, name.as_str());
     let text = copy_with_room(alloc, part)?;

@@ -1,13 +1,12 @@
+//! What an object is, by its custom metadata.
 ghost use Rattle.std.specs.Prelude.{◌≡◌};
 ghost use Rattle.std.specs.List.{find};
 ghost use Rattle.std.specs.Option.{option_copied};
 ghost use Rattle.dir_listing.specs.Kinds as kinds;
 
 use bucket_api::{Meta, Pair};
+use file_metadata::TARGET_KEY;
 use object_names::NodeKind;
-
-/// The metadata key under which gcsfuse keeps a symlink's target.
-const TARGET_KEY: &str = "gcsfuse_symlink_target";
 
 /// What an object is whose name does not end in a slash: a symlink where its metadata has a target, and else a file.
 pub fn node_kind(meta: &Meta) -> NodeKind

@@ -1,3 +1,4 @@
+//! A directory that is listed page by page.
 ghost use Rattle.std.specs.Prelude.{◌≡◌, IfOk, OnOk, OnErr};
 ghost use Rattle.object_names.specs.ShownNames.{shown_entries, Shows};
 ghost use Rattle.dir_listing.specs.Pages.{none_listed, with_page};
@@ -24,11 +25,11 @@ pub struct Listing {
 
 impl Model for Listing {
     ghost use Rattle.object_names.specs.ShownNames.{Listed};
-    ghost use Rattle.dir_listing.specs.Names.{listed_of, Fit};
+    ghost use Rattle.dir_listing.specs.Names.{listed_from, Fit};
 
     ghost Value = { Listed };
 
-    ghost view = { λ l. listed_of l.prefix l.items.items l.prefixes.items l.implicit };
+    ghost view = { λ l. listed_from l.prefix l.items.items l.prefixes.items l.implicit };
 
     ghost invariant = { λ l. Fit l.prefix l.items.items l.prefixes.items };
 }

@@ -1,5 +1,6 @@
+//! What a listed name is in its directory.
 ghost use Rattle.std.specs.Prelude.{◌≡◌, ◌≢◌, ℕ, List, ◌++◌, ◌∷◌, [], MatchOption};
-ghost use Rattle.dir_listing.specs.Names.{listed_name, FitsRole, Misses, Finds};
+ghost use Rattle.dir_listing.specs.Names.{listed_name, FitsRole, HasNoPart, IsPartOf};
 
 use object_names::{PATH_MAX, component_text};
 
@@ -36,7 +37,7 @@ pub(crate) fn role_of<'a>(prefix: &[u8], name: &'a str) -> (Role, &'a str)
 /// The part that a path leaves after the prefix of a directory, where it can be shown: it is a component, and the path
 /// is not too long.
 fn shown_part<'a>(prefix: &[u8], path: &'a [u8]) -> Option<&'a str>
-    ensures { MatchOption result (Misses prefix.now path.now) (λ part. Finds prefix.now path.now part.now) }
+    ensures { MatchOption result (HasNoPart prefix.now path.now) (λ part. IsPartOf prefix.now path.now part.now) }
 {
     let Some(rest) = rest_of(prefix, path) else {
         return None;

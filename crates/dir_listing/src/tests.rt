@@ -1,5 +1,7 @@
+//! Small directories, an empty one, and one of more than a thousand entries.
 use crate::Listing;
 use bucket_api::{Meta, Page, Pair};
+use file_metadata::{MTIME_KEY, TARGET_KEY};
 use io_ports::{NoMemory, Row, Text};
 use object_names::NodeKind;
 use std::alloc::Global;
@@ -16,10 +18,10 @@ fn pair(alloc: Global, key: &str) -> Result<Pair, NoMemory> {
 /// What a bucket tells of an object. A name that ends in `@` is that of a symlink, and the object's is without it.
 fn meta(alloc: Global, word: &str) -> Result<Meta, NoMemory> {
     let mut pairs = Vec::new(alloc);
-    pairs.push(pair(alloc, "gcsfuse_mtime")?)?;
+    pairs.push(pair(alloc, MTIME_KEY)?)?;
     let name = match word.strip_suffix('@') {
         Some(name) => {
-            pairs.push(pair(alloc, "gcsfuse_symlink_target")?)?;
+            pairs.push(pair(alloc, TARGET_KEY)?)?;
             Text::of(alloc, name)?
         }
         None => Text::of(alloc, word)?,
@@ -52,6 +54,7 @@ fn page_of(alloc: Global, items: &str, prefixes: &str) -> Result<Page, NoMemory>
     })
 }
 
+/// The letter of a kind.
 fn letter(kind: NodeKind) -> &'static str {
     match kind {
         NodeKind::Dir => "=d ",
@@ -78,6 +81,36 @@ fn shown(alloc: Global, prefix: &str, pages: &str, implicit: bool) -> Result<Str
     Ok(line)
 }
 
+/// A page of so many files with names of four digits.
+fn numbered_page(alloc: Global, count: u64) -> Result<Page, NoMemory> {
+    let mut metas = Vec::new(alloc);
+    for number in 0..count {
+        let name = format!(in alloc; "{number:04}")?;
+        metas.push(meta(alloc, name.as_str())?)?;
+    }
+    Ok(Page {
+        items: Row::from_vec(metas),
+        prefixes: Row::new(alloc),
+        next: None,
+    })
+}
+
+/// How many entries a directory of one page of so many files has.
+fn counted(alloc: Global, count: u64) -> Result<u64, NoMemory> {
+    let mut listing = Listing::new(alloc, Text::of(alloc, "")?, true);
+    let page = numbered_page(alloc, count)?;
+    listing.add_page(&page)?;
+    let entries = listing.finish()?;
+    Ok(entries.len())
+}
+
+#[test]
+fn pages_are_empty_or_long(rt: HostRuntime) -> Result<(), Fail> {
+    assert_eq!(rt; counted(rt.alloc(), 0)?, 0);
+    assert_eq!(rt; counted(rt.alloc(), 1_500)?, 1_500);
+    Ok(())
+}
+
 #[test]
 fn shows_a_file_beside_the_directory_of_its_name(rt: HostRuntime) -> Result<(), Fail> {
     let whole = shown(rt.alloc(), "", "foo foo-x foo/|foo/", false)?;
@@ -97,8 +130,8 @@ fn stands_in_the_order_of_the_bytes_of_shown_names(rt: HostRuntime) -> Result<()
 #[test]
 fn shows_only_what_lies_in_the_directory(rt: HostRuntime) -> Result<(), Fail> {
     let pages = "d/ d/a\rb;d/link@ d/link d/sub@|d/../ d// d/sub/ d/x/";
-    let plain = shown(rt.alloc(), "d/", pages, false)?;
-    assert_eq!(rt; plain.as_str(), "link=s sub=s ");
+    let explicit = shown(rt.alloc(), "d/", pages, false)?;
+    assert_eq!(rt; explicit.as_str(), "link=s sub=s ");
     let implicit = shown(rt.alloc(), "d/", pages, true)?;
     assert_eq!(rt; implicit.as_str(), "link=s sub=d sub\n=s x=d ");
     Ok(())

@@ -8,13 +8,10 @@ use Rattle.std.specs.FinMap.Entries.{put, by_order}
 use Rattle.std.specs.List.{list_any}
 use Rattle.std.specs.Ordering.{is_eq}
 use Rattle.std.specs.declared.cmp.Ordering.TheVariants.{Less, Equal, Greater}
+use Rattle.base_laws.proofs.Tests.{either_of, same_or_not}
 use Rattle.spare_maps.specs.SpareMaps.{Numbered}
 use Rattle.spare_maps.proofs.FinMaps.{get-insert_number, get-remove_number, number_put, number_taken, number_taken_same}
-use Rattle.handle_table.specs.Handles.{Opened, Handles, IsTable, IsHeldTable, open_on, count_at, opened, released}
-
-either_of : {A B C : Type 0} → A ⊎ B → (A → C) → (B → C) → C
-either_of (inl a) f g = f a
-either_of (inr b) f g = g b
+use Rattle.handle_table.specs.Handles.{Opened, Handles, IsHandleTable, HoldsHandles, open_on, count_at, opened, released}
 
 -- ---- lists
 module _ {X : Type 0} (p : X → Bool) where
@@ -102,12 +99,6 @@ pub count_at-remove : (counts : fin.FinMap nat_cmp ℕ) (node q : ℕ) → count
 count_at-remove counts node q = ap (λ o. unwrap_or o 0) (get-remove_number counts node q)
     ∙ elim (nat_eq q node) as (λ b. unwrap_or (cond b None (fin.get counts q)) 0 ≡ cond b 0 (count_at counts q)) [ true ↦ refl | false ↦ refl ]
 
-same_or_not : (n m : ℕ) → (n ≡ m) ⊎ (n ≢ m)
-same_or_not n m = elim (nat_eq n m) as (λ b. nat_eq n m ≡ b → (n ≡ m) ⊎ (n ≢ m)) [
-  | true ↦ λ e. inl ((Decides-eqb n m).0 e)
-  | false ↦ λ e. inr (λ p. false≢true (sym e ∙ (Decides-eqb n m).1 p))
-] refl
-
 differs : (n m : ℕ) → n ≢ m → nat_eq n m ≡ false
 differs n m h = elim (nat_eq n m) as (λ b. nat_eq n m ≡ b → b ≡ false) [ true ↦ λ e. absurd (h ((Decides-eqb n m).0 e)) | false ↦ λ e. refl ] refl
 
@@ -132,7 +123,7 @@ counts_down counts on q node left are e = either_of (same_or_not q node)
     ap (λ t. cond t (counts node - 1) (counts q)) (differs q node p) ∙ (let step : counts q ≡ left = omega arith in step))
 
 -- ---- tables
-pub fresh : (table : Handles) → IsTable table → fin.get table.handles table.next ≡ None
+pub fresh : (table : Handles) → IsHandleTable table → fin.get table.handles table.next ≡ None
 fresh table t = elim (fin.get table.handles table.next) as (λ o. fin.get table.handles table.next ≡ o → o ≡ None) [
   | None ↦ λ e. refl
   | Some handle ↦ λ e. let below = t.given table.next handle e in absurd (omega arith)
@@ -142,14 +133,14 @@ one_at_most : (b : Bool) → cond b 1 0 ≤ 1
 one_at_most true = omega arith
 one_at_most false = omega arith
 
-pub IsTable-opened : (table : Handles) (handle : Opened) → IsTable table → IsTable (opened table handle)
-IsTable-opened table handle t = record {
+pub IsHandleTable-opened : (table : Handles) (handle : Opened) → IsHandleTable table → IsHandleTable (opened table handle)
+IsHandleTable-opened table handle t = record {
   given = λ fh h e. either_of (number_put table.handles table.next handle h fh e) (λ p. subst (λ n. n < table.next + 1) (sym p.0) (omega arith)) (λ p. let old = t.given fh h p in omega arith);
   bounded = λ node. omega (arith, open_on-insert table.handles table.next handle node (fresh table t), t.bounded node, one_at_most (handle.node == node));
 }
 
-pub IsTable-released : (table : Handles) (fh : ℕ) → IsTable table → IsTable (released table fh)
-IsTable-released table fh t = record {
+pub IsHandleTable-released : (table : Handles) (fh : ℕ) → IsHandleTable table → IsHandleTable (released table fh)
+IsHandleTable-released table fh t = record {
   given = λ n h e. t.given n h (number_taken table.handles fh h n e).1;
   bounded = λ node. fewer node (fin.get table.handles fh) refl;
 }
@@ -159,8 +150,8 @@ IsTable-released table fh t = record {
     fewer node (Some handle) e = omega (arith, open_on-remove table.handles fh handle node e, t.bounded node)
 
 -- ---- the fields of the code's table
-pub IsHeldTable-new : (handles : Numbered Opened) (held : Numbered ℕ) → handles.map ≡ fin.empty → held.map ≡ fin.empty → IsHeldTable handles held 1 0
-IsHeldTable-new handles held e f = record {
+pub HoldsHandles-new : (handles : Numbered Opened) (held : Numbered ℕ) → handles.map ≡ fin.empty → held.map ≡ fin.empty → HoldsHandles handles held 1 0
+HoldsHandles-new handles held e f = record {
   table = record {
     given = λ fh h there. absurd (nothing fh h (ap (λ m. fin.get m fh) (sym e) ∙ there));
     bounded = λ node. omega (arith, ap (λ m. open_on m node) e, open_on-empty node);
@@ -174,18 +165,18 @@ IsHeldTable-new handles held e f = record {
     nothing fh h there = let none : fin.get {X = Opened} {R = nat_cmp} fin.empty fh ≡ None = fin.get-empty nat_cmp fh in cc
 
 -- the handles another map, the counts theirs
-pub IsHeldTable-of : (handles : Numbered Opened) (held : Numbered ℕ) (next spare : ℕ) (m : fin.FinMap nat_cmp Opened) → handles.map ≡ m
-    → IsTable (record { handles = m; next = next; spare = spare }) → ((node : ℕ) → count_at held.map node ≡ open_on m node)
-    → spare ≤ handles.spare → spare ≤ held.spare → IsHeldTable handles held next spare
-IsHeldTable-of handles held next spare m e t counts handle_room held_room = record {
-  table = subst (λ x. IsTable (record { handles = x; next = next; spare = spare })) (sym e) t;
+pub HoldsHandles-of : (handles : Numbered Opened) (held : Numbered ℕ) (next spare : ℕ) (m : fin.FinMap nat_cmp Opened) → handles.map ≡ m
+    → IsHandleTable (record { handles = m; next = next; spare = spare }) → ((node : ℕ) → count_at held.map node ≡ open_on m node)
+    → spare ≤ handles.spare → spare ≤ held.spare → HoldsHandles handles held next spare
+HoldsHandles-of handles held next spare m e t counts handle_room held_room = record {
+  table = subst (λ x. IsHandleTable (record { handles = x; next = next; spare = spare })) (sym e) t;
   counts = λ node. counts node ∙ ap (λ x. open_on x node) (sym e);
   handle_room = handle_room;
   held_room = held_room;
 }
 
-pub IsTable-spare : (table : Handles) (spare : ℕ) → IsTable table → IsTable (record table { spare = spare })
-IsTable-spare table spare t = record { given = t.given; bounded = t.bounded }
+pub IsHandleTable-spare : (table : Handles) (spare : ℕ) → IsHandleTable table → IsHandleTable (record table { spare = spare })
+IsHandleTable-spare table spare t = record { given = t.given; bounded = t.bounded }
 
 -- whether a handle is open on a node, by the count
 pub held_answer : (handles : fin.FinMap nat_cmp Opened) (node count : ℕ) → count ≡ open_on handles node → nat_lt 0 count ≡ list_any (λ handle. handle.node == node) (fin.values handles)

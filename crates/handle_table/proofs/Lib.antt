@@ -1,1 +1,2 @@
+-- The laws that the proofs of `handle_table` cite.
 pub mod HandleLemmas

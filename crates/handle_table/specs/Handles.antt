@@ -36,8 +36,8 @@ handles_code =
 
 -- ---- what calls make of a table
 -- no handle is open, and the first one gets 1
-abbrev pub new_table : Handles
-new_table = record { handles = fin.empty; next = 1; spare = 0 }
+abbrev pub no_handles : Handles
+no_handles = record { handles = fin.empty; next = 1; spare = 0 }
 
 -- one more handle, under the next number
 abbrev pub opened : Handles → Opened → Handles
@@ -53,7 +53,7 @@ open_on handles node = length (filter (λ handle. handle.node == node) (fin.valu
 
 -- ---- what holds of every table
 -- handles have numbers that were given before, and no node has more of them than were given
-pub record IsTable (table : Handles) : Type 0 where
+pub record IsHandleTable (table : Handles) : Type 0 where
   pub given : (fh : ℕ) (handle : Opened) → fin.get table.handles fh ≡ Some handle → fh < table.next
   pub bounded : (node : ℕ) → open_on table.handles node ≤ table.next
 
@@ -63,8 +63,8 @@ count_at counts node = unwrap_or (fin.get counts node) 0
 
 -- the table that handles, counts, the next number and the spare make is one, the counts are those of its handles, and
 -- both maps have its spare
-pub record IsHeldTable (handles : Numbered Opened) (held : Numbered ℕ) (next spare : ℕ) : Type 0 where
-  pub table : IsTable (record { handles = handles.map; next = next; spare = spare })
+pub record HoldsHandles (handles : Numbered Opened) (held : Numbered ℕ) (next spare : ℕ) : Type 0 where
+  pub table : IsHandleTable (record { handles = handles.map; next = next; spare = spare })
   pub counts : (node : ℕ) → count_at held.map node ≡ open_on handles.map node
   pub handle_room : spare ≤ handles.spare
   pub held_room : spare ≤ held.spare

@@ -1,3 +1,4 @@
+//! An open handle.
 use io_ports::Row;
 use object_names::DirItem;
 use std::marker::Model;

@@ -1,9 +1,10 @@
+//! The table of open handles.
 ghost use Rattle.std.specs.Prelude.{◌≡◌, ◌≤◌, ◌<◌, ◌^◌, ◌+◌, ◌-◌, ◌==◌, ℕ, Some, None, nat_eq, is_some, if◌then◌else◌, OnOk, OnErr};
 ghost use Rattle.std.specs.FinMap as fin;
 ghost use Rattle.std.specs.List.{list_any};
 ghost use Rattle.std.specs.Option.{option_copied};
 ghost use Rattle.handle_table.specs.Handles as spec;
-ghost use Rattle.handle_table.specs.Handles.{Opened, IsTable, opened, released, count_at};
+ghost use Rattle.handle_table.specs.Handles.{Opened, IsHandleTable, opened, released, count_at};
 
 use crate::handle::Handle;
 use io_ports::{NoMemory, Row};
@@ -25,7 +26,7 @@ pub struct HandleTable {
 }
 
 impl Model for HandleTable {
-    ghost use Rattle.handle_table.specs.Handles.{Handles, handles_code, IsHeldTable};
+    ghost use Rattle.handle_table.specs.Handles.{Handles, handles_code, HoldsHandles};
 
     ghost Value = { Handles };
 
@@ -33,13 +34,13 @@ impl Model for HandleTable {
 
     ghost view = { λ t. record { handles = t.handles.map; next = t.next; spare = t.room } };
 
-    ghost invariant = { λ t. IsHeldTable t.handles t.held t.next t.room };
+    ghost invariant = { λ t. HoldsHandles t.handles t.held t.next t.room };
 }
 
 impl HandleTable {
     /// A table with no open handle and no spare. The first handle will have the number 1.
     pub fn new(alloc: Global) -> HandleTable
-        ensures ok { result ≡ spec.new_table }
+        ensures ok { result ≡ spec.no_handles }
     {
         HandleTable {
             handles: NumberMap::new(alloc),
@@ -49,12 +50,14 @@ impl HandleTable {
         }
     }
 
-    /// Makes room: afterwards the table takes at least `more` further handles. `NoMemory` where memory for them was
-    /// refused.
+    /// Makes room: afterwards the table takes at least `more` further handles, and never fewer than
+    /// before. `NoMemory` where memory for more than the spare was refused; then nothing has changed.
     pub fn reserve(&mut self, more: u64) -> Result<(), NoMemory>
         ensures ok { OnOk result (more ≤ self.new.spare) }
         ensures err { OnErr result (self.new ≡ self.old) }
+        ensures full { OnErr result (self.old.spare < more) }
         ensures kept { self.new ≡ record self.old { spare = self.new.spare } }
+        ensures spare { self.old.spare ≤ self.new.spare }
     {
         if more > self.room {
             self.handles.reserve(more)?;
@@ -105,7 +108,7 @@ impl HandleTable {
     /// The handle of a number, where it is open.
     pub fn get(&self, fh: u64) -> Option<&Handle>
         ensures ok { option_copied result ≡ fin.get self.now.handles fh }
-        ensures valid { IsTable self.now }
+        ensures valid { IsHandleTable self.now }
     {
         self.handles.get(fh)
     }

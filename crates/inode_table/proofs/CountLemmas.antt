@@ -5,10 +5,10 @@ use Rattle.std.proofs.lemmas.Bool.Decides.{Decides-eqb}
 use Rattle.std.specs.FinMap as fin
 use Rattle.std.specs.Option.{option_map_or}
 use Rattle.spare_maps.proofs.FinMaps.{get-insert_number, get-remove_number}
-use Rattle.inode_table.specs.Calls.{Call, Grant, Look, Forget, after_all, MeetsAll, count_along, CountsDecide}
-use Rattle.inode_table.specs.Inodes.{Inodes, NodeMap, IsTable, new_table, changed, granted, looked, forgotten, dropped, drops, left, root, lookups_of}
+use Rattle.inode_table.specs.Calls.{NodeCall, Grant, Look, Forget, after_all, MeetsAll, count_along, CountsDecide}
+use Rattle.inode_table.specs.Inodes.{Inodes, NodeMap, IsInodeTable, root_alone, changed, granted, looked, forgotten, dropped, drops, name_left, root_inode, lookups_of}
 use Rattle.inode_table.specs.declared.inode.Inode.{Inode}
-use Rattle.inode_table.proofs.TableLemmas.{IsTable-new, IsTable-spare, IsTable-granted, IsTable-written, IsTable-dropped, spent, unspent}
+use Rattle.inode_table.proofs.TableLemmas.{IsInodeTable-new, IsInodeTable-spare, IsInodeTable-granted, IsInodeTable-written, IsInodeTable-dropped, spent, unspent}
 
 -- the look-ups of what is found
 abbrev count_in : Option Inode → ℕ
@@ -36,16 +36,16 @@ where_kept node k a c same = elim (nat_eq node k) as (λ t. nat_eq node k ≡ t 
 ] refl
 
 -- ---- a look
-leaves_look : (table : Inodes) (other node : ℕ) → IsTable table → IsSome (fin.get table.nodes other)
-    → IsTable (looked table other) × (lookups_of (looked table other) node ≡ cond (nat_eq node other) (lookups_of table node + 1) (lookups_of table node))
+leaves_look : (table : Inodes) (other node : ℕ) → IsInodeTable table → IsSome (fin.get table.nodes other)
+    → IsInodeTable (looked table other) × (lookups_of (looked table other) node ≡ cond (nat_eq node other) (lookups_of table node + 1) (lookups_of table node))
 leaves_look table other node t =
     elim (fin.get table.nodes other) as (λ o. fin.get table.nodes other ≡ o → IsSome o
-    → IsTable (record table { nodes = option_map_or (λ inode. fin.insert table.nodes other (record inode { lookups = inode.lookups + 1 })) o table.nodes })
+    → IsInodeTable (record table { nodes = option_map_or (λ inode. fin.insert table.nodes other (record inode { lookups = inode.lookups + 1 })) o table.nodes })
     × (count_in (fin.get (option_map_or (λ inode. fin.insert table.nodes other (record inode { lookups = inode.lookups + 1 })) o table.nodes) node)
     ≡ cond (nat_eq node other) (lookups_of table node + 1) (lookups_of table node))) [
       | None ↦ λ e there. absurd (false≢true there)
       | Some inode ↦ λ e there. (
-        IsTable-written table other inode (record inode { lookups = inode.lookups + 1 }) t e refl refl (λ _. omega arith),
+        IsInodeTable-written table other inode (record inode { lookups = inode.lookups + 1 }) t e refl refl (λ _. omega arith),
         after_put table.nodes other (record inode { lookups = inode.lookups + 1 }) node
             ∙ where_same node other (inode.lookups + 1) (lookups_of table node + 1) (lookups_of table node)
             (λ p. ap (λ n. n + 1) (sym (ap count_in (ap (fin.get table.nodes) p ∙ e)))),
@@ -56,20 +56,20 @@ leaves_look table other node t =
 -- what is left where the other node was found so, and the test of dropping it answered so
 abbrev Left : Inodes → ℕ → ℕ → ℕ → Option Inode → Bool → Type 0
 Left table other less node o drop =
-    IsTable (cond drop
-    (record table { nodes = fin.remove table.nodes other; current = option_map_or (λ inode. left table.current inode.name other) o table.current })
+    IsInodeTable (cond drop
+    (record table { nodes = fin.remove table.nodes other; current = option_map_or (λ inode. name_left table.current inode.name other) o table.current })
     (record table { nodes = option_map_or (λ inode. fin.insert table.nodes other (record inode { lookups = inode.lookups - less })) o table.nodes }))
     × (lookups_of (cond drop
-    (record table { nodes = fin.remove table.nodes other; current = option_map_or (λ inode. left table.current inode.name other) o table.current })
+    (record table { nodes = fin.remove table.nodes other; current = option_map_or (λ inode. name_left table.current inode.name other) o table.current })
     (record table { nodes = option_map_or (λ inode. fin.insert table.nodes other (record inode { lookups = inode.lookups - less })) o table.nodes })) node
     ≡ cond (nat_eq node other) (lookups_of table node - less) (lookups_of table node))
 
-leaves_forget : (table : Inodes) (other less node : ℕ) → IsTable table
-    → IsTable (forgotten table other less) × (lookups_of (forgotten table other less) node ≡ cond (nat_eq node other) (lookups_of table node - less) (lookups_of table node))
+leaves_forget : (table : Inodes) (other less node : ℕ) → IsInodeTable table
+    → IsInodeTable (forgotten table other less) × (lookups_of (forgotten table other less) node ≡ cond (nat_eq node other) (lookups_of table node - less) (lookups_of table node))
 leaves_forget table other less node t =
     elim (fin.get table.nodes other) as (λ o. fin.get table.nodes other ≡ o → Left table other less node o (option_map_or (λ inode. not (other == 1) && nat_le inode.lookups less) o false)) [
       | None ↦ λ e. (
-        IsTable-spare table table.spare t,
+        IsInodeTable-spare table table.spare t,
         sym (where_kept node other (lookups_of table node - less) (lookups_of table node) (λ p. gone (ap count_in (ap (fin.get table.nodes) p ∙ e)))),
       )
       | Some inode ↦ λ e. some inode e
@@ -85,13 +85,13 @@ leaves_forget table other less node t =
     some inode e =
         elim (not (other == 1) && nat_le inode.lookups less) as (λ drop. (not (other == 1) && nat_le inode.lookups less) ≡ drop → Left table other less node (Some inode) drop) [
           | true ↦ λ b. (
-            IsTable-dropped table other inode t (spent other inode.lookups less b).0 e,
+            IsInodeTable-dropped table other inode t (spent other inode.lookups less b).0 e,
             after_taken table.nodes other node
                 ∙ where_same node other 0 (lookups_of table node - less) (lookups_of table node)
                 (λ p. none_left (lookups_of table node) (subst (λ n. n ≤ less) (sym (ap count_in (ap (fin.get table.nodes) p ∙ e))) (spent other inode.lookups less b).1)),
           )
           | false ↦ λ b. (
-            IsTable-written table other inode (record inode { lookups = inode.lookups - less }) t e refl refl (unspent other inode.lookups less b),
+            IsInodeTable-written table other inode (record inode { lookups = inode.lookups - less }) t e refl refl (unspent other inode.lookups less b),
             after_put table.nodes other (record inode { lookups = inode.lookups - less }) node
                 ∙ where_same node other (inode.lookups - less) (lookups_of table node - less) (lookups_of table node)
                 (λ p. ap (λ n. n - less) (sym (ap count_in (ap (fin.get table.nodes) p ∙ e)))),
@@ -100,7 +100,7 @@ leaves_forget table other less node t =
 
 -- ---- all calls
 -- a node other than the root is there exactly where it has look-ups
-there_counted : (table : Inodes) (node : ℕ) → IsTable table → node ≢ 1 → IsSome (fin.get table.nodes node) ↔ (0 < lookups_of table node)
+there_counted : (table : Inodes) (node : ℕ) → IsInodeTable table → node ≢ 1 → IsSome (fin.get table.nodes node) ↔ (0 < lookups_of table node)
 there_counted table node t other =
     elim (fin.get table.nodes node) as (λ o. fin.get table.nodes node ≡ o → IsSome o ↔ (0 < count_in o)) [
       | None ↦ λ e. (λ h. absurd (false≢true h), λ h. absurd (omega arith))
@@ -110,11 +110,11 @@ there_counted table node t other =
     not_root : (n : ℕ) → n ≢ 1 → (n == 1) ≡ false
     not_root n h = elim (nat_eq n 1) as (λ b. nat_eq n 1 ≡ b → b ≡ false) [ true ↦ λ e. absurd (h ((Decides-eqb n 1).0 e)) | false ↦ λ e. refl ] refl
 
-along : (node : ℕ) → node ≢ 1 → (calls : List Call) (table : Inodes) (count : ℕ) → IsTable table → lookups_of table node ≡ count → MeetsAll table calls
+along : (node : ℕ) → node ≢ 1 → (calls : List NodeCall) (table : Inodes) (count : ℕ) → IsInodeTable table → lookups_of table node ≡ count → MeetsAll table calls
     → IsSome (fin.get (after_all table calls).nodes node) ↔ (0 < count_along node table.next count calls)
 along node other [] table count t e meets = subst (λ n. IsSome (fin.get table.nodes node) ↔ (0 < n)) e (there_counted table node t other)
 along node other (Grant name kind source known ∷ calls) table count t e meets =
-    along node other calls (granted table name kind source known) (cond (nat_eq node table.next) 1 count) (IsTable-granted table name kind source known t)
+    along node other calls (granted table name kind source known) (cond (nat_eq node table.next) 1 count) (IsInodeTable-granted table name kind source known t)
     (after_put table.nodes table.next (record { node = table.next; name = name; kind = kind; lookups = 1; source = source; known = known }) node
     ∙ ap (cond (nat_eq node table.next) 1) e)
     meets.1
@@ -131,4 +131,4 @@ along node other (Forget one less ∷ calls) table count t e meets =
     same_next false = refl
 
 pub counts_decide : CountsDecide
-counts_decide = λ calls meets node other. along node other calls new_table 0 IsTable-new (after_put fin.empty 1 root node ∙ where_kept node 1 0 (count_in (fin.get {R = nat_cmp} fin.empty node)) (λ p. absurd (other p)) ∙ ap count_in (fin.get-empty nat_cmp node)) meets
+counts_decide = λ calls meets node other. along node other calls root_alone 0 IsInodeTable-new (after_put fin.empty 1 root_inode node ∙ where_kept node 1 0 (count_in (fin.get {R = nat_cmp} fin.empty node)) (λ p. absurd (other p)) ∙ ap count_in (fin.get-empty nat_cmp node)) meets

@@ -1,2 +1,3 @@
+-- The laws that the proofs of `inode_table` cite.
 pub mod CountLemmas
 pub mod TableLemmas

@@ -5,36 +5,24 @@ use Rattle.std.proofs.lemmas.Bool.Decides.{Decides-eqb, nat_tests}
 use Rattle.std.specs.Cmp.Lexicographic.{slice_cmp}
 use Rattle.std.specs.FinMap as fin
 use Rattle.std.specs.Option.{option_map_or}
+use Rattle.base_laws.proofs.Options.{same_some}
+use Rattle.base_laws.proofs.Tests.{either_of, same_or_not}
 use Rattle.object_names.specs.declared.shown.NodeKind.{NodeKind}
 use Rattle.spare_maps.specs.SpareMaps.{Numbered, Named}
 use Rattle.spare_maps.proofs.FinMaps.{number_put, number_put_same, number_put_other, number_taken, number_taken_other, name_put, name_taken}
-use Rattle.inode_table.specs.Inodes.{Inodes, NodeMap, Names, IsTable, IsHeldTable, IsNamed, root, new_table, granted, left}
+use Rattle.inode_table.specs.Inodes.{Inodes, NodeMap, CurrentNames, IsInodeTable, HoldsInodes, IsNamed, root_inode, root_alone, granted, name_left}
 use Rattle.inode_table.specs.declared.inode.Inode.{Inode}
-
-either_of : {A B C : Type 0} → A ⊎ B → (A → C) → (B → C) → C
-either_of (inl a) f g = f a
-either_of (inr b) f g = g b
-
--- two numbers are the same or not
-same_or_not : (n m : ℕ) → (n ≡ m) ⊎ (n ≢ m)
-same_or_not n m = elim (nat_eq n m) as (λ b. nat_eq n m ≡ b → (n ≡ m) ⊎ (n ≢ m)) [
-  | true ↦ λ e. inl ((Decides-eqb n m).0 e)
-  | false ↦ λ e. inr (λ p. false≢true (sym e ∙ (Decides-eqb n m).1 p))
-] refl
-
-pub same_Some : {X : Type 0} (x y : X) → Some x ≡ Some y → x ≡ y
-same_Some x y e = cc
 
 some_there : {X : Type 0} (o : Option X) (x : X) → o ≡ Some x → IsSome o
 some_there o x e = ap is_some e
 
 -- ---- a new table
-pub IsTable-new : IsTable new_table
-IsTable-new = record {
-  root_stays = some_there _ root (number_put_same fin.empty 1 root);
-  numbered = λ node inode e. either_of (number_put fin.empty 1 root inode node e) (λ p. sym (ap (λ i. i.node) p.1) ∙ sym p.0) (λ p. absurd (nothing node inode p));
-  given = λ node inode e. either_of (number_put fin.empty 1 root inode node e) (λ p. subst (λ n. n < 2) (sym p.0) (omega arith)) (λ p. absurd (nothing node inode p));
-  held = λ node inode e other. either_of (number_put fin.empty 1 root inode node e) (λ p. absurd (false≢true (sym other ∙ (Decides-eqb node 1).1 p.0))) (λ p. absurd (nothing node inode p));
+pub IsInodeTable-new : IsInodeTable root_alone
+IsInodeTable-new = record {
+  root_stays = some_there _ root_inode (number_put_same fin.empty 1 root_inode);
+  numbered = λ node inode e. either_of (number_put fin.empty 1 root_inode inode node e) (λ p. sym (ap (λ i. i.node) p.1) ∙ sym p.0) (λ p. absurd (nothing node inode p));
+  given = λ node inode e. either_of (number_put fin.empty 1 root_inode inode node e) (λ p. subst (λ n. n < 2) (sym p.0) (omega arith)) (λ p. absurd (nothing node inode p));
+  held = λ node inode e other. either_of (number_put fin.empty 1 root_inode inode node e) (λ p. absurd (false≢true (sym other ∙ (Decides-eqb node 1).1 p.0))) (λ p. absurd (nothing node inode p));
   own_name = λ name node e. absurd (no_name name node e);
 }
   where
@@ -45,15 +33,15 @@ IsTable-new = record {
     no_name name node e = let none : fin.get {X = ℕ} {R = slice_cmp nat_cmp} fin.empty name ≡ None = fin.get-empty (slice_cmp nat_cmp) name in cc
 
 -- ---- the spare says nothing
-pub IsTable-spare : (table : Inodes) (spare : ℕ) → IsTable table → IsTable (record table { spare = spare })
-IsTable-spare table spare t = record { root_stays = t.root_stays; numbered = t.numbered; given = t.given; held = t.held; own_name = t.own_name }
+pub IsInodeTable-spare : (table : Inodes) (spare : ℕ) → IsInodeTable table → IsInodeTable (record table { spare = spare })
+IsInodeTable-spare table spare t = record { root_stays = t.root_stays; numbered = t.numbered; given = t.given; held = t.held; own_name = t.own_name }
 
 -- ---- a node put under its number, a new one or one that was there
-pub IsTable-put : (table : Inodes) (node next : ℕ) (inode : Inode) → IsTable table → inode.node ≡ node → node < next → table.next ≤ next
+pub IsInodeTable-put : (table : Inodes) (node next : ℕ) (inode : Inode) → IsInodeTable table → inode.node ≡ node → node < next → table.next ≤ next
     → ((node == 1) ≡ false → 0 < inode.lookups)
     → ((name : List ℕ) → fin.get table.current name ≡ Some node → inode.name ≡ name)
-    → IsTable (record table { nodes = fin.insert table.nodes node inode; next = next })
-IsTable-put table node next inode t own below rises more names = record {
+    → IsInodeTable (record table { nodes = fin.insert table.nodes node inode; next = next })
+IsInodeTable-put table node next inode t own below rises more names = record {
   root_stays = either_of (same_or_not 1 node)
       (λ p. subst (λ n. IsSome (fin.get (fin.insert table.nodes node inode) n)) (sym p) (some_there _ inode (number_put_same table.nodes node inode)))
       (λ p. subst IsSome (sym (number_put_other table.nodes node inode 1 p)) t.root_stays);
@@ -68,16 +56,16 @@ IsTable-put table node next inode t own below rises more names = record {
 }
 
 -- a node that is there written anew, under the same number and name
-pub IsTable-written : (table : Inodes) (node : ℕ) (inode new : Inode) → IsTable table → fin.get table.nodes node ≡ Some inode
+pub IsInodeTable-written : (table : Inodes) (node : ℕ) (inode new : Inode) → IsInodeTable table → fin.get table.nodes node ≡ Some inode
     → new.node ≡ inode.node → new.name ≡ inode.name → ((node == 1) ≡ false → 0 < new.lookups)
-    → IsTable (record table { nodes = fin.insert table.nodes node new })
-IsTable-written table node inode new t there number name more =
-    IsTable-put table node table.next new t (number ∙ t.numbered node inode there) (t.given node inode there) (omega arith) more
-    (λ n c. let was = t.own_name n node c in name ∙ ap (λ x. x.name) (same_Some inode was.0 (sym there ∙ was.1)) ∙ was.2)
+    → IsInodeTable (record table { nodes = fin.insert table.nodes node new })
+IsInodeTable-written table node inode new t there number name more =
+    IsInodeTable-put table node table.next new t (number ∙ t.numbered node inode there) (t.given node inode there) (omega arith) more
+    (λ n c. let was = t.own_name n node c in name ∙ ap (λ x. x.name) (same_some inode was.0 (sym there ∙ was.1)) ∙ was.2)
 
 -- ---- names
-pub IsTable-named : (table : Inodes) (name : List ℕ) (node : ℕ) → IsTable table → IsNamed table node name → IsTable (record table { current = fin.insert table.current name node })
-IsTable-named table name node t is = record {
+pub IsInodeTable-named : (table : Inodes) (name : List ℕ) (node : ℕ) → IsInodeTable table → IsNamed table node name → IsInodeTable (record table { current = fin.insert table.current name node })
+IsInodeTable-named table name node t is = record {
   root_stays = t.root_stays;
   numbered = t.numbered;
   given = t.given;
@@ -87,8 +75,8 @@ IsTable-named table name node t is = record {
       (t.own_name q n);
 }
 
-pub IsTable-unnamed : (table : Inodes) (name : List ℕ) → IsTable table → IsTable (record table { current = fin.remove table.current name })
-IsTable-unnamed table name t = record {
+pub IsInodeTable-unnamed : (table : Inodes) (name : List ℕ) → IsInodeTable table → IsInodeTable (record table { current = fin.remove table.current name })
+IsInodeTable-unnamed table name t = record {
   root_stays = t.root_stays;
   numbered = t.numbered;
   given = t.given;
@@ -97,12 +85,12 @@ IsTable-unnamed table name t = record {
 }
 
 -- ---- a grant
-pub IsTable-granted : (table : Inodes) (name : List ℕ) (kind : NodeKind) (source known : ℕ) → IsTable table → IsTable (granted table name kind source known)
-IsTable-granted table name kind source known t =
+pub IsInodeTable-granted : (table : Inodes) (name : List ℕ) (kind : NodeKind) (source known : ℕ) → IsInodeTable table → IsInodeTable (granted table name kind source known)
+IsInodeTable-granted table name kind source known t =
     let inode : Inode = record { node = table.next; name = name; kind = kind; lookups = 1; source = source; known = known } in
-    let put = IsTable-put table table.next (table.next + 1) inode t refl (omega arith) (omega arith) (λ _. omega arith) (λ q e. absurd (fresh q e)) in
-    IsTable-spare (record table { nodes = fin.insert table.nodes table.next inode; current = fin.insert table.current name table.next; next = table.next + 1 }) (table.spare - 1)
-    (IsTable-named (record table { nodes = fin.insert table.nodes table.next inode; next = table.next + 1 }) name table.next put
+    let put = IsInodeTable-put table table.next (table.next + 1) inode t refl (omega arith) (omega arith) (λ _. omega arith) (λ q e. absurd (fresh q e)) in
+    IsInodeTable-spare (record table { nodes = fin.insert table.nodes table.next inode; current = fin.insert table.current name table.next; next = table.next + 1 }) (table.spare - 1)
+    (IsInodeTable-named (record table { nodes = fin.insert table.nodes table.next inode; next = table.next + 1 }) name table.next put
     (inode, number_put_same table.nodes table.next inode, refl))
   where
     fresh : (q : List ℕ) → fin.get table.current q ≡ Some table.next → ⊥
@@ -110,8 +98,8 @@ IsTable-granted table name kind source known t =
 
 -- ---- a node that goes
 -- the names that are left have other nodes, as they had
-left_other : (table : Inodes) (node : ℕ) (inode : Inode) → IsTable table → fin.get table.nodes node ≡ Some inode
-    → (q : List ℕ) (n : ℕ) → fin.get (left table.current inode.name node) q ≡ Some n → (n ≢ node) × (fin.get table.current q ≡ Some n)
+left_other : (table : Inodes) (node : ℕ) (inode : Inode) → IsInodeTable table → fin.get table.nodes node ≡ Some inode
+    → (q : List ℕ) (n : ℕ) → fin.get (name_left table.current inode.name node) q ≡ Some n → (n ≢ node) × (fin.get table.current q ≡ Some n)
 left_other table node inode t there q n =
     elim (option_map_or (nat_eq node) (fin.get table.current inode.name) false) as (λ b. option_map_or (nat_eq node) (fin.get table.current inode.name) false ≡ b
     → fin.get (cond b (fin.remove table.current inode.name) table.current) q ≡ Some n → (n ≢ node) × (fin.get table.current q ≡ Some n)) [
@@ -120,11 +108,11 @@ left_other table node inode t there q n =
     ] refl
   where
     named : fin.get table.current q ≡ Some node → inode.name ≡ q
-    named c = let was = t.own_name q node c in ap (λ x. x.name) (same_Some inode was.0 (sym there ∙ was.1)) ∙ was.2
+    named c = let was = t.own_name q node c in ap (λ x. x.name) (same_some inode was.0 (sym there ∙ was.1)) ∙ was.2
 
-pub IsTable-dropped : (table : Inodes) (node : ℕ) (inode : Inode) → IsTable table → node ≢ 1 → fin.get table.nodes node ≡ Some inode
-    → IsTable (record table { nodes = fin.remove table.nodes node; current = left table.current inode.name node })
-IsTable-dropped table node inode t other there = record {
+pub IsInodeTable-dropped : (table : Inodes) (node : ℕ) (inode : Inode) → IsInodeTable table → node ≢ 1 → fin.get table.nodes node ≡ Some inode
+    → IsInodeTable (record table { nodes = fin.remove table.nodes node; current = name_left table.current inode.name node })
+IsInodeTable-dropped table node inode t other there = record {
   root_stays = subst IsSome (sym (number_taken_other table.nodes node 1 (λ p. other (sym p)))) t.root_stays;
   numbered = λ n i e. t.numbered n i (number_taken table.nodes node i n e).1;
   given = λ n i e. t.given n i (number_taken table.nodes node i n e).1;
@@ -136,11 +124,11 @@ IsTable-dropped table node inode t other there = record {
 }
 
 -- ---- the fields of the code's table
-pub IsHeldTable-of : (nodes : Numbered Inode) (current : Named) (next spare : ℕ) (m : NodeMap) (n : Names) → nodes.map ≡ m → current.map ≡ n
-    → IsTable (record { nodes = m; current = n; next = next; spare = spare }) → spare ≤ nodes.spare → spare ≤ current.spare → IsHeldTable nodes current next spare
-IsHeldTable-of nodes current next spare m n e f t node_room name_room = record {
-  table = subst (λ x. IsTable (record { nodes = x; current = current.map; next = next; spare = spare })) (sym e)
-      (subst (λ x. IsTable (record { nodes = m; current = x; next = next; spare = spare })) (sym f) t);
+pub HoldsInodes-of : (nodes : Numbered Inode) (current : Named) (next spare : ℕ) (m : NodeMap) (n : CurrentNames) → nodes.map ≡ m → current.map ≡ n
+    → IsInodeTable (record { nodes = m; current = n; next = next; spare = spare }) → spare ≤ nodes.spare → spare ≤ current.spare → HoldsInodes nodes current next spare
+HoldsInodes-of nodes current next spare m n e f t node_room name_room = record {
+  table = subst (λ x. IsInodeTable (record { nodes = x; current = current.map; next = next; spare = spare })) (sym e)
+      (subst (λ x. IsInodeTable (record { nodes = m; current = x; next = next; spare = spare })) (sym f) t);
   node_room = node_room;
   name_room = name_room;
 }

@@ -15,33 +15,33 @@ use Rattle.inode_table.specs.declared.inode.Inode.{Inode}
 abbrev pub NodeMap : Type 0
 NodeMap = fin.FinMap nat_cmp Inode
 
-abbrev pub Names : Type 0
-Names = fin.FinMap (slice_cmp nat_cmp) ℕ
+abbrev pub CurrentNames : Type 0
+CurrentNames = fin.FinMap (slice_cmp nat_cmp) ℕ
 
 -- the nodes that are there by their numbers, the current node of each name that has one, the number that the next node
 -- gets, and for how many more nodes there is room
 pub record Inodes : Type 0 where
   pub nodes : NodeMap
-  pub current : Names
+  pub current : CurrentNames
   pub next : ℕ
   pub spare : ℕ
 
 abbrev pub inodes_code : Coded Inodes
 inodes_code =
     code_by
-    (NodeMap × (Names × (ℕ × ℕ)))
+    (NodeMap × (CurrentNames × (ℕ × ℕ)))
     (coded× (fin.code coded_ℕ inode_code) (coded× (fin.code (coded_list coded_ℕ) coded_ℕ) (coded× coded_ℕ coded_ℕ)))
     (λ t. (t.nodes, (t.current, (t.next, t.spare))))
     (λ p. record { nodes = p.0; current = p.1.0; next = p.1.1.0; spare = p.1.1.1 })
     (λ _. refl)
 
 -- ---- a new table
-abbrev pub root : Inode
-root = record { node = 1; name = []; kind = Dir; lookups = 0; source = 0; known = 0 }
+abbrev pub root_inode : Inode
+root_inode = record { node = 1; name = []; kind = Dir; lookups = 0; source = 0; known = 0 }
 
 -- the root alone, current of no name
-abbrev pub new_table : Inodes
-new_table = record { nodes = fin.insert fin.empty 1 root; current = fin.empty; next = 2; spare = 0 }
+abbrev pub root_alone : Inodes
+root_alone = record { nodes = fin.insert fin.empty 1 root_inode; current = fin.empty; next = 2; spare = 0 }
 
 -- ---- what calls make of it
 -- the nodes, with one of them changed, where it is there
@@ -66,12 +66,12 @@ abbrev pub drops : Inodes → ℕ → ℕ → Bool
 drops table node count = option_map_or (λ inode. not (node == 1) && nat_le inode.lookups count) (fin.get table.nodes node) false
 
 -- the names, where this node is no longer current under this one
-abbrev pub left : Names → List ℕ → ℕ → Names
-left current name node = if option_map_or (nat_eq node) (fin.get current name) false then fin.remove current name else current
+abbrev pub name_left : CurrentNames → List ℕ → ℕ → CurrentNames
+name_left current name node = if option_map_or (nat_eq node) (fin.get current name) false then fin.remove current name else current
 
 -- the names without a node that goes
-abbrev pub left_by : NodeMap → Names → ℕ → Names
-left_by nodes current node = option_map_or (λ inode. left current inode.name node) (fin.get nodes node) current
+abbrev pub left_by : NodeMap → CurrentNames → ℕ → CurrentNames
+left_by nodes current node = option_map_or (λ inode. name_left current inode.name node) (fin.get nodes node) current
 
 -- a node is there no more, and no longer current
 abbrev pub dropped : Inodes → ℕ → Inodes
@@ -106,7 +106,7 @@ IsNamed table node name = (inode : Inode) × (fin.get table.nodes node ≡ Some 
 
 -- ---- what holds of every table
 
-pub record IsTable (table : Inodes) : Type 0 where
+pub record IsInodeTable (table : Inodes) : Type 0 where
   -- the root is there
   pub root_stays : IsSome (fin.get table.nodes 1)
   -- a node is there under its own number, which was given before, and the root alone may have no look-ups
@@ -117,7 +117,7 @@ pub record IsTable (table : Inodes) : Type 0 where
   pub own_name : (name : List ℕ) (node : ℕ) → fin.get table.current name ≡ Some node → IsNamed table node name
 
 -- the table that nodes, names, the next number and the spare make is one, and both maps have its spare
-pub record IsHeldTable (nodes : Numbered Inode) (current : Named) (next spare : ℕ) : Type 0 where
-  pub table : IsTable (record { nodes = nodes.map; current = current.map; next = next; spare = spare })
+pub record HoldsInodes (nodes : Numbered Inode) (current : Named) (next spare : ℕ) : Type 0 where
+  pub table : IsInodeTable (record { nodes = nodes.map; current = current.map; next = next; spare = spare })
   pub node_room : spare ≤ nodes.spare
   pub name_room : spare ≤ current.spare

@@ -1,3 +1,4 @@
+//! A node.
 use io_ports::Text;
 use object_names::NodeKind;
 

@@ -1,8 +1,9 @@
+//! The table of nodes.
 ghost use Rattle.std.specs.Prelude.{◌≡◌, ◌≤◌, ◌<◌, ◌^◌, ◌==◌, ◌&&◌, not, nat_le, IsSome, IfOk, OnOk, OnErr};
 ghost use Rattle.std.specs.FinMap as fin;
 ghost use Rattle.std.specs.Option.{option_copied};
 ghost use Rattle.inode_table.specs.Inodes as spec;
-ghost use Rattle.inode_table.specs.Inodes.{IsTable, granted, looked, drops, forgotten, advanced, made_current, detached, lookups_of, IsNamed};
+ghost use Rattle.inode_table.specs.Inodes.{IsInodeTable, granted, looked, drops, forgotten, advanced, made_current, detached, lookups_of, IsNamed};
 ghost use Rattle.inode_table.specs.Calls.{CountsDecide};
 
 use crate::inode::Inode;
@@ -27,7 +28,7 @@ pub struct InodeTable {
 }
 
 impl Model for InodeTable {
-    ghost use Rattle.inode_table.specs.Inodes.{Inodes, inodes_code, IsHeldTable};
+    ghost use Rattle.inode_table.specs.Inodes.{Inodes, inodes_code, HoldsInodes};
 
     ghost Value = { Inodes };
 
@@ -35,14 +36,14 @@ impl Model for InodeTable {
 
     ghost view = { λ t. record { nodes = t.nodes.map; current = t.current.map; next = t.next; spare = t.room } };
 
-    ghost invariant = { λ t. IsHeldTable t.nodes t.current t.next t.room };
+    ghost invariant = { λ t. HoldsInodes t.nodes t.current t.next t.room };
 }
 
 impl InodeTable {
     /// A table with the root alone: node 1, a directory with the empty name and no look-ups, which is current of no
     /// name. It has no spare.
     pub fn new(alloc: Global) -> Result<InodeTable, NoMemory>
-        ensures ok { IfOk result (λ table. table ≡ spec.new_table) }
+        ensures ok { IfOk result (λ table. table ≡ spec.root_alone) }
         ensures counts { OnOk result CountsDecide }
     {
         let mut nodes = NumberMap::new(alloc);
@@ -64,12 +65,14 @@ impl InodeTable {
         })
     }
 
-    /// Makes room: afterwards the table takes at least `more` further nodes. `NoMemory` where memory for them was
-    /// refused.
+    /// Makes room: afterwards the table takes at least `more` further nodes, and never fewer than
+    /// before. `NoMemory` where memory for more than the spare was refused; then nothing has changed.
     pub fn reserve(&mut self, more: u64) -> Result<(), NoMemory>
         ensures ok { OnOk result (more ≤ self.new.spare) }
         ensures err { OnErr result (self.new ≡ self.old) }
+        ensures full { OnErr result (self.old.spare < more) }
         ensures kept { self.new ≡ record self.old { spare = self.new.spare } }
+        ensures spare { self.old.spare ≤ self.new.spare }
     {
         if more > self.room {
             self.nodes.reserve(more)?;
@@ -135,7 +138,7 @@ impl InodeTable {
     /// The node of a number, where it is live.
     pub fn get(&self, node: u64) -> Option<&Inode>
         ensures ok { option_copied result ≡ fin.get self.now.nodes node }
-        ensures valid { IsTable self.now }
+        ensures valid { IsInodeTable self.now }
     {
         self.nodes.get(node)
     }
@@ -143,7 +146,7 @@ impl InodeTable {
     /// The current node of a name, where it has one.
     pub fn current(&self, name: &str) -> Option<u64>
         ensures ok { result ≡ fin.get self.now.current name.now }
-        ensures valid { IsTable self.now }
+        ensures valid { IsInodeTable self.now }
     {
         self.current.get(name)
     }

@@ -1,3 +1,4 @@
+//! Nodes that come, are looked up and go, few and many.
 ghost use Rattle.std.specs.Prelude.{◌≡◌, ◌<◌, ◌+◌, ◌^◌, OnOk};
 
 use crate::InodeTable;
@@ -58,16 +59,38 @@ fn look_again(table: &mut InodeTable, node: u64, source: u64) -> bool {
     look_few(table, node)
 }
 
-/// One more look-up of a node, where it is there and has few look-ups.
+/// One more look-up of a node, where it is there and has at most 10,000.
 fn look_few(table: &mut InodeTable, node: u64) -> bool {
     let Some(inode) = table.get(node) else {
         return false;
     };
-    if inode.lookups > 100 {
+    if inode.lookups > 10_000 {
         return false;
     }
     table.look(node);
     true
+}
+
+/// So many more look-ups of a node; answers how many were made.
+fn look_often(table: &mut InodeTable, node: u64, count: u64) -> u64 {
+    let mut made = 0u64;
+    for turn in 0..count {
+        if look_few(table, node) {
+            made = made.saturating_add(1);
+        }
+    }
+    made
+}
+
+#[test]
+fn a_node_is_looked_up_thousands_of_times(rt: HostRuntime) -> Result<(), Fail> {
+    let mut table = InodeTable::new(rt.alloc())?;
+    let node = shown(&mut table, rt.alloc(), "a")?;
+    assert_eq!(rt; look_often(&mut table, node, 3_000), 3_000);
+    assert_eq!(rt; table.get(node).map(|inode| inode.lookups), Some(3_001));
+    assert!(rt; !table.forget(node, 3_000));
+    assert!(rt; table.forget(node, 1));
+    Ok(())
 }
 
 #[test]

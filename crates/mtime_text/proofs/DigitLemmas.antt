@@ -12,12 +12,9 @@ use Rattle.std.proofs.lemmas.Nat.{pow-add}
 use Rattle.std.proofs.lemmas.Option.{cond_some}
 use Rattle.std.proofs.lemmas.List.{length-append, append-nil, length-take-le, take-append-drop, take_at, drop_at}
 use Rattle.std.proofs.lemmas.List.Folds.{list_all-append}
+use Rattle.base_laws.proofs.Tests.{both_true}
 use Rattle.mtime_text.specs.Spelling.{number}
 use Rattle.mtime_text.specs.Reading.{number_at}
-
-pub both : (a b : Bool) → (a && b) ≡ true → (a ≡ true) × (b ≡ true)
-both true b h = (refl, h)
-both false b h = absurd cc
 
 pub digit_range : (byte : ℕ) → is_ascii_digit byte ≡ true → IsInRange 48 57 byte
 digit_range byte h = grind (arith, nat_tests)
@@ -31,16 +28,16 @@ reaches a b h = grind (arith, nat_tests)
 AllDigits_of : (digits : List ℕ) → list_all is_ascii_digit digits ≡ true → AllDigits 10 digits
 AllDigits_of [] all = tt
 AllDigits_of (digit ∷ digits) all =
-    let parts = both (is_ascii_digit digit) (list_all is_ascii_digit digits) all in
+    let parts = both_true (is_ascii_digit digit) (list_all is_ascii_digit digits) all in
     let range = digit_range digit parts.0 in
     let worth = digit_value_digit digit range in
     (omega arith, AllDigits_of digits parts.1)
 
 pub all_at : (test : ℕ → Bool) (bytes : List ℕ) (i : ℕ) → list_all test bytes ≡ true → i < length bytes → test (get_or bytes i 0) ≡ true
 all_at test [] i h lt = absurd (omega arith)
-all_at test (byte ∷ bytes) zero h lt = (both (test byte) (list_all test bytes) h).0
+all_at test (byte ∷ bytes) zero h lt = (both_true (test byte) (list_all test bytes) h).0
 all_at test (byte ∷ bytes) (suc i) h lt =
-    all_at test bytes i (both (test byte) (list_all test bytes) h).1 (omega arith)
+    all_at test bytes i (both_true (test byte) (list_all test bytes) h).1 (omega arith)
 
 -- one more digit, as at a step of a loop
 pub digit_more : (digits : List ℕ) (i value : ℕ) → list_all is_ascii_digit digits ≡ true → i < length digits → value ≡ digits_value 10 (take i digits) → value < 10 ^ i
@@ -97,7 +94,7 @@ number-after width value [] all =
     let none : width + 0 ≡ width = omega arith in
     rw (none, append-nil (number width value))
 number-after width value (digit ∷ digits) all =
-    let parts = both (is_ascii_digit digit) (list_all is_ascii_digit digits) all in
+    let parts = both_true (is_ascii_digit digit) (list_all is_ascii_digit digits) all in
     let worth = digit_value_digit digit (digit_range digit parts.0) in
     let range = digit_range digit parts.0 in
     let more = value * 10 + digit_value digit in
@@ -128,7 +125,7 @@ unfolding number_at
 number_takes width text n rest e =
     let front = take width text in
     let taken = cond_some (nat_le width (length text) && list_all is_ascii_digit front) (digits_value 10 front, drop width text) (n, rest) e in
-    let tests = both (nat_le width (length text)) (list_all is_ascii_digit front) taken.0 in
+    let tests = both_true (nat_le width (length text)) (list_all is_ascii_digit front) taken.0 in
     let long : width ≤ length text = at_least width (length text) tests.0 in
     let len : length front ≡ width = length-take-le width text long in
     let value : digits_value 10 front ≡ n = ap (λ (p : ℕ × List ℕ). p.0) taken.1 in

@@ -7,11 +7,12 @@ use Rattle.std.proofs.lemmas.Bool.Decides.{nat_tests}
 use Rattle.std.proofs.lemmas.List.{append-nil}
 use Rattle.jiff_core.specs.Calendar.{days_from_civil}
 use Rattle.jiff_core.proofs.SignedLemmas.{signed_arith}
+use Rattle.base_laws.proofs.Tests.{both_true}
 use Rattle.mtime_text.specs.Spelling.{capital_t, small_t, date_text, clock_text, fraction_text, offset_text}
-use Rattle.mtime_text.specs.Grammar.{Parts, spelling, AreParts, second_of, nanos_of, seconds_ahead, last_second, IsMtimeText}
+use Rattle.file_metadata.specs.FileMetadata.{last_second}
+use Rattle.mtime_text.specs.Grammar.{Parts, time_spelling, AreParts, utc_second_of, nanos_of, seconds_ahead, IsMtimeText}
 use Rattle.mtime_text.specs.Printed.{year_of, month_of, day_of, utc_parts, printed_text}
-use Rattle.mtime_text.specs.Reading.{◌>>=◌, after, is_time_mark, date_at, clock_at, fraction_at, offset_at, in_range, whole, mtime_of}
-use Rattle.mtime_text.proofs.DigitLemmas.{both}
+use Rattle.mtime_text.specs.Reading.{◌>>=◌, after_byte, is_time_mark, date_at, clock_at, fraction_at, offset_at, in_range, whole, mtime_of}
 use Rattle.mtime_text.proofs.MomentLemmas.{printed_day}
 use Rattle.mtime_text.proofs.StepLemmas.{bind_some, after_takes}
 use Rattle.mtime_text.proofs.PartLemmas.{date_takes, date_again, clock_takes, clock_again}
@@ -26,7 +27,7 @@ record InRange (second : ℤ) (nanos : ℕ) (time : ℕ × ℕ) : Type 0 where
 
 tested : (second : ℤ) → (int_le (pos 0) second && int_le second (pos last_second)) ≡ true → (pos 0 ≤ℤ second) × (second ≤ℤ pos last_second)
 tested second e =
-    let parts = both (int_le (pos 0) second) (int_le second (pos last_second)) e in
+    let parts = both_true (int_le (pos 0) second) (int_le second (pos last_second)) e in
     (grind (arith, ints), grind (arith, ints))
 
 not_negative : (z : ℤ) → pos 0 ≤ℤ z → z ≡ pos (unsigned_abs z)
@@ -65,11 +66,11 @@ spelled text date a clock b c fraction d offset e mark h₀ h₁ h₂ h₃ h₄ 
 pub time_takes : (text : List ℕ) (time : ℕ × ℕ) → mtime_of text ≡ Some time → IsMtimeText text time.0 time.1
 unfolding mtime_of
 time_takes text time e =
-    let (day, read_day, e₁) = bind_some (date_at text) (λ day. (after is_time_mark day.1 >>= clock_at) >>= λ clock. fraction_at clock.1 >>= λ nanos. offset_at nanos.1 >>= λ offset. whole (day.0 *ℤ pos 86_400 +ℤ pos clock.0 -ℤ offset.0) nanos.0 offset.1) time e in
-    let (clock, read_marked, e₂) = bind_some (after is_time_mark day.1 >>= clock_at) (λ clock. fraction_at clock.1 >>= λ nanos. offset_at nanos.1 >>= λ offset. whole (day.0 *ℤ pos 86_400 +ℤ pos clock.0 -ℤ offset.0) nanos.0 offset.1) time e₁ in
+    let (day, read_day, e₁) = bind_some (date_at text) (λ day. (after_byte is_time_mark day.1 >>= clock_at) >>= λ clock. fraction_at clock.1 >>= λ nanos. offset_at nanos.1 >>= λ offset. whole (day.0 *ℤ pos 86_400 +ℤ pos clock.0 -ℤ offset.0) nanos.0 offset.1) time e in
+    let (clock, read_marked, e₂) = bind_some (after_byte is_time_mark day.1 >>= clock_at) (λ clock. fraction_at clock.1 >>= λ nanos. offset_at nanos.1 >>= λ offset. whole (day.0 *ℤ pos 86_400 +ℤ pos clock.0 -ℤ offset.0) nanos.0 offset.1) time e₁ in
     let (nanos, read_nanos, e₃) = bind_some (fraction_at clock.1) (λ nanos. offset_at nanos.1 >>= λ offset. whole (day.0 *ℤ pos 86_400 +ℤ pos clock.0 -ℤ offset.0) nanos.0 offset.1) time e₂ in
     let (offset, read_offset, e₄) = bind_some (offset_at nanos.1) (λ offset. whole (day.0 *ℤ pos 86_400 +ℤ pos clock.0 -ℤ offset.0) nanos.0 offset.1) time e₃ in
-    let (behind, marked, read_clock) = bind_some (after is_time_mark day.1) clock_at clock read_marked in
+    let (behind, marked, read_clock) = bind_some (after_byte is_time_mark day.1) clock_at clock read_marked in
     let (mark, is, cut) = after_takes is_time_mark day.1 behind marked in
     let d = date_takes text day read_day in
     let c = clock_takes behind clock read_clock in
@@ -96,14 +97,14 @@ in_range_again second nanos small =
     let high : int_le (pos second) (pos last_second) ≡ true = grind (arith, ints) in
     rw (low, high)
 
-time_again_parts : (p : Parts) (second : ℕ) → AreParts p → second_of p ≡ pos second → second ≤ last_second → mtime_of (spelling p) ≡ Some (second, nanos_of p)
+time_again_parts : (p : Parts) (second : ℕ) → AreParts p → utc_second_of p ≡ pos second → second ≤ last_second → mtime_of (time_spelling p) ≡ Some (second, nanos_of p)
 unfolding mtime_of
 time_again_parts p second valid is small =
     let begins = begins_offset p.offset valid.offset in
     let zone = offset_text p.offset in
     let places = fraction_text p.places p.fraction in
     let clock = clock_text p.hour p.minute p.second in
-    let regrouped : spelling p ≡ date_text p.year p.month p.day ++ (p.mark ∷ (clock ++ (places ++ zone))) = simp append_assoc in
+    let regrouped : time_spelling p ≡ date_text p.year p.month p.day ++ (p.mark ∷ (clock ++ (places ++ zone))) = simp append_assoc in
     let fraction : fraction_at (places ++ zone) ≡ Some (nanos_of p, zone) =
     rw begins.text_is (fraction_again p.places p.fraction begins.first begins.others valid.places valid.fraction begins.no_digit begins.no_point) in
     let offset : offset_at zone ≡ Some (seconds_ahead p.offset, []) = rw (append-nil zone) at (offset_again p.offset [] valid.offset) in

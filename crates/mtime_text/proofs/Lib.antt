@@ -1,3 +1,4 @@
+-- The laws that the proofs of `mtime_text` cite.
 pub mod DigitLemmas
 pub mod DateLemmas
 pub mod MomentLemmas

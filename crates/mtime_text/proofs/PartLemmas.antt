@@ -4,9 +4,10 @@ use Rattle.std.proofs.lemmas.Option.{cond_some}
 use Rattle.jiff_core.specs.Calendar.{IsCivilDate, days_from_civil}
 use Rattle.jiff_core.proofs.CalendarLemmas.{days_in_month_bounds}
 use Rattle.jiff_core.proofs.SignedLemmas.{signed_arith}
+use Rattle.base_laws.proofs.Tests.{both_true}
 use Rattle.mtime_text.specs.Spelling.{dash, colon, number, date_text, clock_text}
 use Rattle.mtime_text.specs.Reading.{◌>>=◌, number_at, number_after, is_date, date_at, clock_at}
-use Rattle.mtime_text.proofs.DigitLemmas.{both, number_takes, number_again}
+use Rattle.mtime_text.proofs.DigitLemmas.{number_takes, number_again}
 use Rattle.mtime_text.proofs.DateLemmas.{is_date-civil, civil-is_date}
 use Rattle.mtime_text.proofs.StepLemmas.{bind_some, below, is_below, number_after_takes, number_after_again}
 
@@ -76,8 +77,8 @@ clock_takes text read e =
     let (minute, read_minute, e₂) = bind_some (number_after colon 2 hour.1) (λ minute. number_after colon 2 minute.1 >>= λ second. cond (nat_lt hour.0 24 && (nat_lt minute.0 60 && nat_lt second.0 60)) (Some (hour.0 * 3600 + minute.0 * 60 + second.0, second.1)) None) read e₁ in
     let (second, read_second, e₃) = bind_some (number_after colon 2 minute.1) (λ second. cond (nat_lt hour.0 24 && (nat_lt minute.0 60 && nat_lt second.0 60)) (Some (hour.0 * 3600 + minute.0 * 60 + second.0, second.1)) None) read e₂ in
     let (valid, same) = cond_some (nat_lt hour.0 24 && (nat_lt minute.0 60 && nat_lt second.0 60)) (hour.0 * 3600 + minute.0 * 60 + second.0, second.1) read e₃ in
-    let outer = both (nat_lt hour.0 24) (nat_lt minute.0 60 && nat_lt second.0 60) valid in
-    let inner = both (nat_lt minute.0 60) (nat_lt second.0 60) outer.1 in
+    let outer = both_true (nat_lt hour.0 24) (nat_lt minute.0 60 && nat_lt second.0 60) valid in
+    let inner = both_true (nat_lt minute.0 60) (nat_lt second.0 60) outer.1 in
     let hour_taken = number_takes 2 text hour.0 hour.1 read_hour in
     let minute_taken = number_after_takes colon 2 hour.1 minute.0 minute.1 read_minute in
     let second_taken = number_after_takes colon 2 minute.1 second.0 second.1 read_second in

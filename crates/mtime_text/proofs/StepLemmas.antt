@@ -4,7 +4,7 @@ use Rattle.std.specs.Prelude.{option_map, option_and_then}
 use Rattle.std.proofs.lemmas.Option.{cond_some}
 use Rattle.std.proofs.lemmas.Bool.Decides.{nat_tests}
 use Rattle.mtime_text.specs.Spelling.{number}
-use Rattle.mtime_text.specs.Reading.{after, number_at, number_after}
+use Rattle.mtime_text.specs.Reading.{after_byte, number_at, number_after}
 use Rattle.mtime_text.proofs.DigitLemmas.{number_takes, number_again}
 
 pub bind_some : {A B : Type 0} (o : Option A) (f : A → Option B) (y : B) → option_and_then f o ≡ Some y → (x : A) × (o ≡ Some x) × (f x ≡ Some y)
@@ -15,17 +15,9 @@ pub map_some : {A B : Type 0} (o : Option A) (f : A → B) (y : B) → option_ma
 map_some None f y e = absurd cc
 map_some (Some x) f y e = (x, refl, cc)
 
-pub some_is : {A : Type 0} (x y : A) → Some x ≡ Some y → x ≡ y
-some_is x y e = cc
-
 pub chosen : {A : Type 0} (b : Bool) (x y z : A) → cond b x y ≡ z → ((b ≡ true) × (x ≡ z)) ⊎ ((b ≡ false) × (y ≡ z))
 chosen true x y z e = inl (refl, e)
 chosen false x y z e = inr (refl, e)
-
--- a test that stands before a step
-pub when_true : {A : Type 0} (b : Bool) (o : Option A) (y : A) → cond b o None ≡ Some y → (b ≡ true) × (o ≡ Some y)
-when_true true o y e = (refl, e)
-when_true false o y e = absurd cc
 
 pub same_byte : (a b : ℕ) → (a == b) ≡ true → a ≡ b
 same_byte a b e = grind (arith, nat_tests)
@@ -39,7 +31,7 @@ below a b e = grind (arith, nat_tests)
 pub is_below : (a b : ℕ) → a < b → nat_lt a b ≡ true
 is_below a b h = grind (arith, nat_tests)
 
-pub after_takes : (test : ℕ → Bool) (text rest : List ℕ) → after test text ≡ Some rest → (byte : ℕ) × (test byte ≡ true) × (text ≡ byte ∷ rest)
+pub after_takes : (test : ℕ → Bool) (text rest : List ℕ) → after_byte test text ≡ Some rest → (byte : ℕ) × (test byte ≡ true) × (text ≡ byte ∷ rest)
 after_takes test [] rest e = absurd cc
 after_takes test (byte ∷ bytes) rest e =
     let passed = cond_some (test byte) bytes rest e in
@@ -52,7 +44,7 @@ pub record TakesAfter (byte width : ℕ) (text : List ℕ) (n : ℕ) (rest : Lis
 
 pub number_after_takes : (byte width : ℕ) (text : List ℕ) (n : ℕ) (rest : List ℕ) → number_after byte width text ≡ Some (n, rest) → TakesAfter byte width text n rest
 number_after_takes byte width text n rest e =
-    let (behind, stepped, read) = bind_some (after (◌==◌ byte) text) (number_at width) (n, rest) e in
+    let (behind, stepped, read) = bind_some (after_byte (◌==◌ byte) text) (number_at width) (n, rest) e in
     let (first, same, cut) = after_takes (◌==◌ byte) text behind stepped in
     let taken = number_takes width behind n rest read in
     let is : byte ≡ first = same_byte byte first same in

@@ -5,11 +5,13 @@ use Rattle.std.specs.List.{list_all, prefix_len}
 use Rattle.std.specs.Char.{is_ascii_digit}
 use Rattle.std.proofs.lemmas.Option.{cond_some}
 use Rattle.std.proofs.lemmas.Bool.Decides.{nat_tests}
+use Rattle.base_laws.proofs.Options.{same_some, when_true}
+use Rattle.base_laws.proofs.Tests.{both_true}
 use Rattle.mtime_text.specs.Spelling.{colon, dot, plus, dash, capital_z, small_z, Offset, zulu, ahead, behind, number, fraction_text, offset_text}
 use Rattle.mtime_text.specs.Grammar.{IsOffset, seconds_ahead}
 use Rattle.mtime_text.specs.Reading.{◌>>=◌, is_zulu, number_at, number_after, places_at, fraction_at, hours_at, offset_at}
-use Rattle.mtime_text.proofs.DigitLemmas.{both, list_all-number, length-number, number_takes, number_again}
-use Rattle.mtime_text.proofs.StepLemmas.{bind_some, map_some, some_is, chosen, when_true, same_byte, below, is_below, number_after_takes, number_after_again}
+use Rattle.mtime_text.proofs.DigitLemmas.{list_all-number, length-number, number_takes, number_again}
+use Rattle.mtime_text.proofs.StepLemmas.{bind_some, map_some, chosen, same_byte, below, is_below, number_after_takes, number_after_again}
 
 -- ---- fractions
 
@@ -63,18 +65,18 @@ no_fraction text read same = record {
 
 pub fraction_takes : (text : List ℕ) (read : ℕ × List ℕ) → fraction_at text ≡ Some read → TakesFraction text read
 unfolding fraction_at
-fraction_takes [] read e = no_fraction [] read (some_is (0, []) read e)
+fraction_takes [] read e = no_fraction [] read (same_some (0, []) read e)
 fraction_takes (byte ∷ bytes) read e =
     elim (chosen (byte == dot) (places_at bytes) (Some (0, byte ∷ bytes)) (Some read) e) [
       | inl (is, e₁) ↦ places_takes byte bytes read (same_byte byte dot is) e₁
-      | inr (other, e₁) ↦ no_fraction (byte ∷ bytes) read (some_is (0, byte ∷ bytes) read e₁)
+      | inr (other, e₁) ↦ no_fraction (byte ∷ bytes) read (same_some (0, byte ∷ bytes) read e₁)
     ]
 
 -- the digits end where another byte stands
 digits_end : (digits : List ℕ) (byte : ℕ) (rest : List ℕ) → list_all is_ascii_digit digits ≡ true → is_ascii_digit byte ≡ false → prefix_len is_ascii_digit (digits ++ byte ∷ rest) ≡ length digits
 digits_end [] byte rest all other = rw other
 digits_end (digit ∷ digits) byte rest all other =
-    let parts = both (is_ascii_digit digit) (list_all is_ascii_digit digits) all in
+    let parts = both_true (is_ascii_digit digit) (list_all is_ascii_digit digits) all in
     rw (parts.0, digits_end digits byte rest parts.1 other) (omega arith)
 
 pub fraction_again : (places fraction byte : ℕ) (rest : List ℕ) → places ≤ 9 → fraction < 10 ^ places → is_ascii_digit byte ≡ false → (byte == dot) ≡ false
@@ -104,7 +106,7 @@ hours_takes text read e =
     let (hours, read_hours, e₁) = bind_some (number_at 2 text) (λ hours. number_after colon 2 hours.1 >>= λ minutes. cond (nat_lt hours.0 24 && nat_lt minutes.0 60) (Some (hours.0 * 3600 + minutes.0 * 60, minutes.1)) None) read e in
     let (minutes, read_minutes, e₂) = bind_some (number_after colon 2 hours.1) (λ minutes. cond (nat_lt hours.0 24 && nat_lt minutes.0 60) (Some (hours.0 * 3600 + minutes.0 * 60, minutes.1)) None) read e₁ in
     let (valid, same) = cond_some (nat_lt hours.0 24 && nat_lt minutes.0 60) (hours.0 * 3600 + minutes.0 * 60, minutes.1) read e₂ in
-    let tests = both (nat_lt hours.0 24) (nat_lt minutes.0 60) valid in
+    let tests = both_true (nat_lt hours.0 24) (nat_lt minutes.0 60) valid in
     let hours_taken = number_takes 2 text hours.0 hours.1 read_hours in
     let minutes_taken = number_after_takes colon 2 hours.1 minutes.0 minutes.1 read_minutes in
     let spelled : text ≡ number 2 hours.0 ++ colon ∷ number 2 minutes.0 ++ minutes.1 =
@@ -140,7 +142,7 @@ letter_zulu byte (inr e) = rw e
 takes_zulu : (byte : ℕ) (bytes : List ℕ) (read : ℤ × List ℕ) → is_zulu byte ≡ true → Some (pos 0, bytes) ≡ Some read → TakesOffset (byte ∷ bytes) read
 unfolding offset_text
 takes_zulu byte bytes read is e =
-    let same = some_is (pos 0, bytes) read e in
+    let same = same_some (pos 0, bytes) read e in
     record {
       offset = zulu byte;
       valid = zulu_letter byte is;
@@ -174,7 +176,9 @@ takes_behind byte bytes read is e =
       parts = spelled ∙ ap (λ (p : ℤ × List ℕ). (dash ∷ number 2 h.hours ++ colon ∷ number 2 h.minutes) ++ p.1) same;
     }
 
-takes_sign : (byte : ℕ) (bytes : List ℕ) (read : ℤ × List ℕ) → cond (byte == plus) (option_map (λ p. (pos p.0, p.1)) (hours_at bytes)) (cond (byte == dash) (option_map (λ p. (neg_ℤ (pos p.0), p.1)) (hours_at bytes)) None) ≡ Some read → TakesOffset (byte ∷ bytes) read
+takes_sign : (byte : ℕ) (bytes : List ℕ) (read : ℤ × List ℕ)
+    → cond (byte == plus) (option_map (λ p. (pos p.0, p.1)) (hours_at bytes)) (cond (byte == dash) (option_map (λ p. (neg_ℤ (pos p.0), p.1)) (hours_at bytes)) None) ≡ Some read
+    → TakesOffset (byte ∷ bytes) read
 takes_sign byte bytes read e =
     elim (chosen (byte == plus) (option_map (λ p. (pos p.0, p.1)) (hours_at bytes)) (cond (byte == dash) (option_map (λ p. (neg_ℤ (pos p.0), p.1)) (hours_at bytes)) None) (Some read) e) [
       | inl (is, e₁) ↦ takes_ahead byte bytes read (same_byte byte plus is) e₁

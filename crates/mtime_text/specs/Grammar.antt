@@ -2,11 +2,8 @@
 -- 1970-01-01T00:00:00Z on, and so long that a mount can show it.
 use Rattle.std.specs.Prelude.{◌≡◌, ℕ, ◌+◌, ◌-◌, ◌*◌, ◌^◌, ◌<◌, ◌≤◌, ◌⊎◌, List, ◌∷◌, ◌++◌, ℤ, pos, neg_ℤ, ◌+ℤ◌, ◌-ℤ◌, ◌*ℤ◌}
 use Rattle.jiff_core.specs.Calendar.{IsCivilDate, days_from_civil}
+use Rattle.file_metadata.specs.FileMetadata.{last_second}
 use Rattle.mtime_text.specs.Spelling.{capital_t, small_t, capital_z, small_z, Offset, zulu, ahead, behind, date_text, clock_text, fraction_text, offset_text}
-
--- The last second that is read and printed, in the year 9892.
-abbrev pub last_second : ℕ
-last_second = 249_999_999_999
 
 -- What a text says: a date, the letter before the clock, the clock, so many decimal places of the second
 -- and the number that they write, and the offset from UTC.
@@ -23,8 +20,8 @@ pub record Parts : Type 0 where
   pub offset : Offset
 
 -- date-time
-abbrev pub spelling : Parts → List ℕ
-spelling p =
+abbrev pub time_spelling : Parts → List ℕ
+time_spelling p =
     date_text p.year p.month p.day
     ++ p.mark ∷ clock_text p.hour p.minute p.second
     ++ fraction_text p.places p.fraction
@@ -54,8 +51,8 @@ seconds_ahead (ahead hours minutes) = pos (hours * 3600 + minutes * 60)
 seconds_ahead (behind hours minutes) = neg_ℤ (pos (hours * 3600 + minutes * 60))
 
 -- The seconds since 1970-01-01T00:00:00Z, where each day has 86,400.
-abbrev pub second_of : Parts → ℤ
-second_of p =
+abbrev pub utc_second_of : Parts → ℤ
+utc_second_of p =
     days_from_civil (pos p.year) p.month p.day *ℤ pos 86_400
     +ℤ pos (p.hour * 3600 + p.minute * 60 + p.second)
     -ℤ seconds_ahead p.offset
@@ -68,7 +65,7 @@ nanos_of p = p.fraction * 10 ^ (9 - p.places)
 pub record IsMtimeText (text : List ℕ) (second nanos : ℕ) : Type 0 where
   pub parts : Parts
   pub valid : AreParts parts
-  pub spelled : text ≡ spelling parts
-  pub second_is : second_of parts ≡ pos second
+  pub spelled : text ≡ time_spelling parts
+  pub second_is : utc_second_of parts ≡ pos second
   pub nanos_is : nanos_of parts ≡ nanos
   pub in_range : second ≤ last_second

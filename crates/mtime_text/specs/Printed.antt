@@ -2,7 +2,7 @@
 use Rattle.std.specs.Prelude.{ℕ, zero, suc, ◌+◌, ◌/◌, ◌%◌, Bool, if◌then◌else◌, pos, ◌-ℤ◌, unsigned_abs, int_le, List}
 use Rattle.jiff_core.specs.Calendar.{days_from_civil}
 use Rattle.mtime_text.specs.Spelling.{capital_t, capital_z, zulu}
-use Rattle.mtime_text.specs.Grammar.{Parts, spelling}
+use Rattle.mtime_text.specs.Grammar.{Parts, time_spelling}
 
 -- The last number up to `most` that passes the test, or 0.
 unfoldable pub last_that : (ℕ → Bool) → ℕ → ℕ
@@ -37,4 +37,4 @@ utc_parts second nanos = record {
 
 -- `YYYY-MM-DDTHH:MM:SS.nnnnnnnnnZ`
 unfoldable pub printed_text : ℕ → ℕ → List ℕ
-printed_text second nanos = spelling (utc_parts second nanos)
+printed_text second nanos = time_spelling (utc_parts second nanos)

@@ -5,7 +5,7 @@ use Rattle.std.specs.Char.{is_ascii_digit}
 use Rattle.std.specs.Str.Parse.{digits_value}
 use Rattle.jiff_core.specs.Calendar.{days_in_month, days_from_civil}
 use Rattle.mtime_text.specs.Spelling.{dash, colon, dot, plus, capital_t, small_t, capital_z, small_z}
-use Rattle.mtime_text.specs.Grammar.{last_second}
+use Rattle.file_metadata.specs.FileMetadata.{last_second}
 
 -- A value, and the bytes after it.
 abbrev pub Read : Type 0 → Type 0
@@ -16,9 +16,9 @@ abbrev pub ◌>>=◌ : {A B : Type 0} → Option A → (A → Option B) → Opti
 o >>= f = option_and_then f o
 
 -- What follows a byte that passes the test.
-abbrev pub after : (ℕ → Bool) → List ℕ → Option (List ℕ)
-after test [] = None
-after test (byte ∷ rest) = if test byte then Some rest else None
+abbrev pub after_byte : (ℕ → Bool) → List ℕ → Option (List ℕ)
+after_byte test [] = None
+after_byte test (byte ∷ rest) = if test byte then Some rest else None
 
 abbrev pub is_time_mark : ℕ → Bool
 is_time_mark byte = byte == capital_t || byte == small_t
@@ -35,7 +35,7 @@ number_at width text =
 
 -- The same behind this byte.
 abbrev pub number_after : ℕ → ℕ → List ℕ → Read ℕ
-number_after byte width text = after (◌==◌ byte) text >>= number_at width
+number_after byte width text = after_byte (◌==◌ byte) text >>= number_at width
 
 -- A day of the calendar.
 abbrev pub is_date : ℕ → ℕ → ℕ → Bool
@@ -103,7 +103,7 @@ whole second nanos (byte ∷ rest) = None
 unfoldable pub mtime_of : List ℕ → Option (ℕ × ℕ)
 mtime_of text = do
   day ← date_at text
-  clock ← after is_time_mark day.1 >>= clock_at
+  clock ← after_byte is_time_mark day.1 >>= clock_at
   nanos ← fraction_at clock.1
   offset ← offset_at nanos.1
   whole (day.0 *ℤ pos 86_400 +ℤ pos clock.0 -ℤ offset.0) nanos.0 offset.1

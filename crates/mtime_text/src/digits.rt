@@ -1,9 +1,9 @@
-// Numbers and single bytes at the front of a text: each function gives what it read and the rest.
+//! Numbers and single bytes at the front of a text: each function gives what it read and the rest.
 ghost use Rattle.std.specs.Prelude.{◌≡◌, ◌^◌, ◌<◌, ◌≤◌, length, IsTrue, IfSome, option_map, option_copied, ◌==◌};
 ghost use Rattle.std.specs.List.{list_all};
 ghost use Rattle.std.specs.Char.{is_ascii_digit};
 ghost use Rattle.std.specs.Str.Parse.{digits_value};
-ghost use Rattle.mtime_text.specs.Reading.{number_at, after};
+ghost use Rattle.mtime_text.specs.Reading.{number_at, after_byte};
 
 /// A number of exactly `width` digits.
 #[tactic(auto, unfolding(crate::specs::Reading::number_at))]
@@ -41,7 +41,7 @@ fn value(digits: &[u8]) -> u32
 
 /// What follows `byte` at the front of the text.
 pub(crate) fn after(text: &[u8], byte: u8) -> Option<&[u8]>
-    ensures { option_copied result ≡ after (◌==◌ byte) text.now }
+    ensures { option_copied result ≡ after_byte (◌==◌ byte) text.now }
 {
     match text {
         [first, rest @ ..] if *first == byte => Some(rest),

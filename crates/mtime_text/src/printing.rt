@@ -1,6 +1,8 @@
+//! Printing a time.
 ghost use Rattle.std.specs.Prelude.{◌≡◌, ◌/◌, ◌%◌, ◌<◌, ◌≤◌, ◌≤ℤ◌, pos, unsigned_abs, [], ◌∷◌, ◌++◌, Some, OnOk, IfOk, string_bytes};
 ghost use Rattle.mtime_text.specs.Spelling.{number, date_text, clock_text};
-ghost use Rattle.mtime_text.specs.Grammar.{last_second, IsMtimeText};
+ghost use Rattle.file_metadata.specs.FileMetadata.{last_second};
+ghost use Rattle.mtime_text.specs.Grammar.{IsMtimeText};
 ghost use Rattle.mtime_text.specs.Printed.{year_of, month_of, day_of, printed_text};
 ghost use Rattle.mtime_text.specs.Reading.{mtime_of};
 

@@ -1,15 +1,14 @@
+//! Reading a time.
 ghost use Rattle.std.specs.Prelude.{ℕ, ◌≡◌, ◌+◌, ◌-◌, ◌*◌, ◌^◌, ◌<◌, ◌≤◌, ◌+ℤ◌, ◌-ℤ◌, ◌*ℤ◌, pos, length, None, Some, IfSome, option_map, option_copied, if◌then◌else◌};
 ghost use Rattle.std.specs.List.{prefix_len};
 ghost use Rattle.std.specs.Char.{is_ascii_digit};
 ghost use Rattle.jiff_core.specs.Calendar.{days_from_civil, IsWithin, IsEpochDay};
 ghost use Rattle.mtime_text.specs.Grammar.{IsMtimeText};
-ghost use Rattle.mtime_text.specs.Reading.{after as after_passing, is_time_mark, is_date, date_at, clock_at, fraction_at, places_at, hours_at, offset_at, in_range, whole, mtime_of};
+ghost use Rattle.mtime_text.specs.Reading.{after_byte, is_time_mark, is_date, date_at, clock_at, fraction_at, places_at, hours_at, offset_at, in_range, whole, mtime_of};
 
 use crate::digits::{after, number};
+use file_metadata::LAST_SECOND;
 use jiff::civil::Date;
-
-/// The last second that is read, in the year 9892.
-const LAST_SECOND: i64 = 249_999_999_999;
 
 /// The second in UTC since 1970-01-01T00:00:00Z and the nanoseconds past it that a text names. `None`
 /// exactly where the text is not on the grammar.
@@ -58,7 +57,7 @@ fn whole(second: i64, nanos: u32, rest: &[u8]) -> Option<(u64, u32)>
 fn in_range(second: i64, nanos: u32) -> Option<(u64, u32)>
     ensures { result ≡ in_range second nanos }
 {
-    if second < 0 || second > LAST_SECOND {
+    if second < 0 || second > LAST_SECOND as i64 {
         return None;
     }
     Some((second as u64, nanos))
@@ -103,7 +102,7 @@ fn day_number(year: u32, month: u32, day: u32) -> Option<i32>
 
 /// What follows the letter before the clock.
 fn after_time_mark(text: &[u8]) -> Option<&[u8]>
-    ensures { option_copied result ≡ after_passing is_time_mark text.now }
+    ensures { option_copied result ≡ after_byte is_time_mark text.now }
 {
     match text {
         [b'T' | b't', rest @ ..] => Some(rest),

@@ -1,3 +1,4 @@
+//! Times that are read and printed, and texts that are none.
 use crate::{print, read};
 use std::test::Fail;
 

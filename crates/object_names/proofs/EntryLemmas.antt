@@ -68,7 +68,8 @@ module _ {Y : Type 0} where
   texts_rise [] h = h
   texts_rise (e ∷ es) h = (each_text (string_bytes e.0) es h.0, texts_rise es h.1)
     where
-      each_text : (first : List ℕ) (es : List (String Y × NodeKind)) → AllByRecursion (λ y. slice_cmp nat_cmp first (string_bytes y) ≡ Less) (map (λ e. e.0) es) → AllByRecursion (λ y. slice_cmp nat_cmp first y ≡ Less) (map (λ entry. entry.shown) (items_of es))
+      each_text : (first : List ℕ) (es : List (String Y × NodeKind)) → AllByRecursion (λ y. slice_cmp nat_cmp first (string_bytes y) ≡ Less) (map (λ e. e.0) es)
+          → AllByRecursion (λ y. slice_cmp nat_cmp first y ≡ Less) (map (λ entry. entry.shown) (items_of es))
       each_text first [] h = h
       each_text first (e ∷ es) h = (h.0, each_text first es h.1)
 

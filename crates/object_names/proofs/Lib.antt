@@ -1,3 +1,4 @@
+-- The laws that the proofs of `object_names` cite.
 pub mod ComponentLemmas
 pub mod EndLemmas
 pub mod EntryLemmas

@@ -11,6 +11,7 @@ use Rattle.std.specs.List.{list_any, filter_map, cons_option}
 use Rattle.std.specs.Option.{option_map}
 use Rattle.std.specs.Ordering.{nat_cmp}
 use Rattle.std.specs.Str.{bytes_eq}
+use Rattle.base_laws.proofs.Options.{when_true}
 use Rattle.object_names.specs.Components.{name_fault, IsComponent}
 use Rattle.object_names.specs.Paths.{has_suffix, bare_name, shown_of, without_end}
 use Rattle.object_names.specs.ShownNames.{Listed, file_key, dir_key, first_kind, can_show, has_dir, file_kind, kind_shown, part_of, listed_parts, names_to_show, shown_map}
@@ -48,11 +49,6 @@ is_none_true (Some x) e = absurd (false≢true e)
 some_is : {X : Type 0} (o : Option X) (x : X) → o ≡ Some x → is_some o ≡ true
 some_is o x e = ap is_some e
 
--- what a `cond` gives that gives something
-cond_some_true : {X : Type 0} (b : Bool) (o : Option X) (x : X) → cond b o None ≡ Some x → (b ≡ true) × (o ≡ Some x)
-cond_some_true true o x e = (refl, e)
-cond_some_true false o x e = cc
-
 -- ---- lists of names
 -- a name in a list is in the list's image, under what it becomes
 list_any-map : (f : List ℕ → List ℕ) (name : List ℕ) (names : List (List ℕ)) → list_any (bytes_eq name) names ≡ true → list_any (bytes_eq (f name)) (map f names) ≡ true
@@ -69,7 +65,8 @@ find_at_most name (e ∷ es) =
     ∙ elim (bytes_eq name e.0) as (λ b. is_some (cond b (Some e.1) (map.find (slice_cmp nat_cmp) name es)) ≡ (b || list_any (bytes_eq name) (map (λ x. x.0) es))) [ true ↦ refl | false ↦ find_at_most name es ]
 
 -- an entry in front of what is found behind it
-pub find-front : (q name : List ℕ) (kind : NodeKind) (es : List (List ℕ × NodeKind)) → map.find (slice_cmp nat_cmp) q ((name, kind) ∷ es) ≡ cond (bytes_eq q name) (Some kind) (map.find (slice_cmp nat_cmp) q es)
+pub find-front : (q name : List ℕ) (kind : NodeKind) (es : List (List ℕ × NodeKind))
+    → map.find (slice_cmp nat_cmp) q ((name, kind) ∷ es) ≡ cond (bytes_eq q name) (Some kind) (map.find (slice_cmp nat_cmp) q es)
 find-front q name kind es = ap (λ b. cond b (Some kind) (map.find (slice_cmp nat_cmp) q es)) (is_eq-slice_cmp q name)
 
 pub cond_same : {X : Type 0} (b : Bool) (x : X) → cond b x x ≡ x
@@ -77,7 +74,8 @@ cond_same true x = refl
 cond_same false x = refl
 
 -- the name q, in front of names or not: both sides read the kind of q
-front_with : (f : List ℕ → Option NodeKind) (q name : List ℕ) (rest : Bool) (kind : NodeKind) → f name ≡ Some kind → cond (bytes_eq q name) (Some kind) (cond rest (f q) None) ≡ cond (bytes_eq q name || rest) (f q) None
+front_with : (f : List ℕ → Option NodeKind) (q name : List ℕ) (rest : Bool) (kind : NodeKind) → f name ≡ Some kind
+    → cond (bytes_eq q name) (Some kind) (cond rest (f q) None) ≡ cond (bytes_eq q name || rest) (f q) None
 front_with f q name rest kind e =
     elim (bytes_eq q name) as (λ b. bytes_eq q name ≡ b → cond b (Some kind) (cond rest (f q) None) ≡ cond (b || rest) (f q) None) [
       | true ↦ λ t. sym e ∙ ap f (sym ((bytes_eq-Decides q name).0 t))
@@ -92,7 +90,8 @@ front_without f q name rest e =
     ] refl
 
 -- what is found among names with the kinds that a function gives
-find-filter_map : (f : List ℕ → Option NodeKind) (q : List ℕ) (names : List (List ℕ)) → map.find (slice_cmp nat_cmp) q (filter_map (λ name. option_map (λ kind. (name, kind)) (f name)) names) ≡ cond (list_any (bytes_eq q) names) (f q) None
+find-filter_map : (f : List ℕ → Option NodeKind) (q : List ℕ) (names : List (List ℕ))
+    → map.find (slice_cmp nat_cmp) q (filter_map (λ name. option_map (λ kind. (name, kind)) (f name)) names) ≡ cond (list_any (bytes_eq q) names) (f q) None
 find-filter_map f q [] = refl
 find-filter_map f q (name ∷ names) =
     elim (f name) as (λ o. f name ≡ o → map.find (slice_cmp nat_cmp) q (cons_option (option_map (λ kind. (name, kind)) o) (filter_map (λ x. option_map (λ kind. (x, kind)) (f x)) names)) ≡ cond (bytes_eq q name || list_any (bytes_eq q) names) (f q) None) [
@@ -111,7 +110,8 @@ file_part : (listed : Listed) (part : List ℕ) → IsComponent part → part_of
 file_part listed part p = ap (without_end 47) (drop-append_seam listed.prefix part) ∙ without_end-other 47 part (no_slash-end part p)
 
 -- a listed name leaves its part
-is_listed : (listed : Listed) (name part : List ℕ) → part_of listed.prefix name ≡ part → list_any (bytes_eq name) (map (λ item. item.0) listed.items ++ listed.prefixes) ≡ true → list_any (bytes_eq part) (listed_parts listed) ≡ true
+is_listed : (listed : Listed) (name part : List ℕ) → part_of listed.prefix name ≡ part → list_any (bytes_eq name) (map (λ item. item.0) listed.items ++ listed.prefixes) ≡ true
+    → list_any (bytes_eq part) (listed_parts listed) ≡ true
 is_listed listed name part e t = subst (λ x. list_any (bytes_eq x) (listed_parts listed) ≡ true) e (list_any-map (part_of listed.prefix) name _ t)
 
 among_items : (listed : Listed) (name : List ℕ) → is_some (first_kind name listed.items) ≡ true → list_any (bytes_eq name) (map (λ item. item.0) listed.items ++ listed.prefixes) ≡ true
@@ -129,7 +129,7 @@ can_show-has_dir : (listed : Listed) (part : List ℕ) → has_dir listed part �
 can_show-has_dir listed part e = and_left (can_show listed part) _ e
 
 can_show-file_kind : (listed : Listed) (part : List ℕ) (kind : NodeKind) → file_kind listed part ≡ Some kind → can_show listed part ≡ true
-can_show-file_kind listed part kind e = (cond_some_true (can_show listed part) (first_kind (file_key listed part) listed.items) kind e).0
+can_show-file_kind listed part kind e = (when_true (can_show listed part) (first_kind (file_key listed part) listed.items) kind e).0
 
 dir_listed : (listed : Listed) (part : List ℕ) → has_dir listed part ≡ true → list_any (bytes_eq part) (listed_parts listed) ≡ true
 dir_listed listed part e =
@@ -139,24 +139,25 @@ dir_listed listed part e =
 
 file_listed : (listed : Listed) (part : List ℕ) (kind : NodeKind) → file_kind listed part ≡ Some kind → list_any (bytes_eq part) (listed_parts listed) ≡ true
 file_listed listed part kind e =
-    let found = cond_some_true (can_show listed part) (first_kind (file_key listed part) listed.items) kind e in
+    let found = when_true (can_show listed part) (first_kind (file_key listed part) listed.items) kind e in
     is_listed listed (file_key listed part) part (file_part listed part (component-can_show listed part found.0))
     (among_items listed (file_key listed part) (some_is (first_kind (file_key listed part) listed.items) kind found.1))
 
 -- a name under which something is shown is a listed part, with the suffix where it has one
-pub shown_part : (listed : Listed) (shown : List ℕ) (kind : NodeKind) → kind_shown listed shown ≡ Some kind → (can_show listed (bare_name shown) ≡ true) × (list_any (bytes_eq (bare_name shown)) (listed_parts listed) ≡ true)
+pub shown_part : (listed : Listed) (shown : List ℕ) (kind : NodeKind) → kind_shown listed shown ≡ Some kind
+    → (can_show listed (bare_name shown) ≡ true) × (list_any (bytes_eq (bare_name shown)) (listed_parts listed) ≡ true)
 shown_part listed shown kind =
     elim (has_suffix shown) as (λ t. has_suffix shown ≡ t →
     (cond t (cond (has_dir listed (bare_name shown)) (file_kind listed (bare_name shown)) None) (cond (has_dir listed shown) (Some Dir) (file_kind listed shown)) ≡ Some kind) →
     (can_show listed (bare_name shown) ≡ true) × (list_any (bytes_eq (bare_name shown)) (listed_parts listed) ≡ true)) [
-      | true ↦ λ t e. let found = cond_some_true (has_dir listed (bare_name shown)) (file_kind listed (bare_name shown)) kind e in
+      | true ↦ λ t e. let found = when_true (has_dir listed (bare_name shown)) (file_kind listed (bare_name shown)) kind e in
           (can_show-has_dir listed (bare_name shown) found.0, dir_listed listed (bare_name shown) found.0)
       | false ↦ λ t e. let bare : shown ≡ bare_name shown = sym (without_end-other 10 shown t) in
-          subst (λ part. (can_show listed part ≡ true) × (list_any (bytes_eq part) (listed_parts listed) ≡ true)) bare (plain e)
+          subst (λ part. (can_show listed part ≡ true) × (list_any (bytes_eq part) (listed_parts listed) ≡ true)) bare (unsuffixed e)
     ] refl
   where
-    plain : (cond (has_dir listed shown) (Some Dir) (file_kind listed shown) ≡ Some kind) → (can_show listed shown ≡ true) × (list_any (bytes_eq shown) (listed_parts listed) ≡ true)
-    plain = elim (has_dir listed shown) as (λ t. has_dir listed shown ≡ t → (cond t (Some Dir) (file_kind listed shown) ≡ Some kind) → (can_show listed shown ≡ true) × (list_any (bytes_eq shown) (listed_parts listed) ≡ true)) [
+    unsuffixed : (cond (has_dir listed shown) (Some Dir) (file_kind listed shown) ≡ Some kind) → (can_show listed shown ≡ true) × (list_any (bytes_eq shown) (listed_parts listed) ≡ true)
+    unsuffixed = elim (has_dir listed shown) as (λ t. has_dir listed shown ≡ t → (cond t (Some Dir) (file_kind listed shown) ≡ Some kind) → (can_show listed shown ≡ true) × (list_any (bytes_eq shown) (listed_parts listed) ≡ true)) [
       | true ↦ λ t e. (can_show-has_dir listed shown t, dir_listed listed shown t)
       | false ↦ λ t e. (can_show-file_kind listed shown kind e, file_listed listed shown kind e)
     ] refl

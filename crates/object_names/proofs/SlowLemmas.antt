@@ -1,4 +1,4 @@
--- The steps of the plain program.
+-- The steps of the slow program.
 use Rattle.std.proofs.Common.{◌≡◌, ℕ, ◌+◌, ◌<◌, ◌≤◌, Bool, true, false, cond, ◌&&◌, ◌||◌, List, [], ◌∷◌, ◌++◌, length, take, drop, get_or, Option, Some, None, is_some, refl, sym, ap, subst, ◌∙◌, add-one}
 use Rattle.std.proofs.lemmas.Bool.Decides.{same_from_decides, Decides-like}
 use Rattle.std.proofs.lemmas.List.{take_more, take_all}
@@ -8,6 +8,7 @@ use Rattle.std.proofs.lemmas.Str.{IsUtf8-append}
 use Rattle.std.proofs.Math.Seq.{drop-cons}
 use Rattle.std.specs.List.{list_any}
 use Rattle.std.specs.Str.{bytes_eq, IsUtf8}
+use Rattle.base_laws.proofs.Tests.{bytes_eq_flip}
 use Rattle.object_names.specs.Paths.{has_suffix, bare_name, shown_of}
 use Rattle.object_names.specs.ShownNames.{Listed, first_kind, kind_shown, names_to_show}
 use Rattle.object_names.specs.declared.shown.NodeKind.{NodeKind}
@@ -15,7 +16,8 @@ use Rattle.object_names.proofs.EndLemmas.{shown_of-bare_name}
 use Rattle.object_names.proofs.ShownLemmas.{component-can_show, shown_part, names_all, find-front}
 
 -- ---- looking through the items
-at_front : (name : List ℕ) (items : List (List ℕ × NodeKind)) (i : ℕ) (item : List ℕ × NodeKind) (text : List ℕ) → i < length items → item ≡ get_or items i item → text ≡ item.0 → first_kind name (drop i items) ≡ cond (bytes_eq name text) (Some item.1) (first_kind name (drop (i + 1) items))
+at_front : (name : List ℕ) (items : List (List ℕ × NodeKind)) (i : ℕ) (item : List ℕ × NodeKind) (text : List ℕ) → i < length items → item ≡ get_or items i item → text ≡ item.0
+    → first_kind name (drop i items) ≡ cond (bytes_eq name text) (Some item.1) (first_kind name (drop (i + 1) items))
 at_front name items i item text h e t =
     ap (first_kind name) (drop-cons items i item h)
     ∙ ap (λ n. first_kind name (get_or items i item ∷ drop n items)) (sym (add-one i))
@@ -23,10 +25,12 @@ at_front name items i item text h e t =
     ∙ find-front name item.0 item.1 (drop (i + 1) items)
     ∙ ap (λ key. cond (bytes_eq name key) (Some item.1) (first_kind name (drop (i + 1) items))) (sym t)
 
-pub first_kind-found : (name : List ℕ) (items : List (List ℕ × NodeKind)) (i : ℕ) (item : List ℕ × NodeKind) (text : List ℕ) → i < length items → item ≡ get_or items i item → text ≡ item.0 → bytes_eq name text ≡ true → first_kind name (drop i items) ≡ Some item.1
+pub first_kind-found : (name : List ℕ) (items : List (List ℕ × NodeKind)) (i : ℕ) (item : List ℕ × NodeKind) (text : List ℕ) → i < length items → item ≡ get_or items i item → text ≡ item.0
+    → bytes_eq name text ≡ true → first_kind name (drop i items) ≡ Some item.1
 first_kind-found name items i item text h e t same = at_front name items i item text h e t ∙ ap (λ b. cond b (Some item.1) (first_kind name (drop (i + 1) items))) same
 
-pub first_kind-passed : (name : List ℕ) (items : List (List ℕ × NodeKind)) (i : ℕ) (item : List ℕ × NodeKind) (text : List ℕ) → i < length items → item ≡ get_or items i item → text ≡ item.0 → bytes_eq name text ≡ false → first_kind name (drop i items) ≡ first_kind name (drop (i + 1) items)
+pub first_kind-passed : (name : List ℕ) (items : List (List ℕ × NodeKind)) (i : ℕ) (item : List ℕ × NodeKind) (text : List ℕ) → i < length items → item ≡ get_or items i item → text ≡ item.0
+    → bytes_eq name text ≡ false → first_kind name (drop i items) ≡ first_kind name (drop (i + 1) items)
 first_kind-passed name items i item text h e t other = at_front name items i item text h e t ∙ ap (λ b. cond b (Some item.1) (first_kind name (drop (i + 1) items))) other
 
 -- ---- what is shown is a text
@@ -42,10 +46,8 @@ IsUtf8-shown listed shown kind e = subst IsUtf8 (shown_of-bare_name shown) (with
     with_suffix false = part
 
 -- ---- one name put into the map
-pub bytes_eq_flip : (x y : List ℕ) → bytes_eq x y ≡ bytes_eq y x
-bytes_eq_flip x y = same_from_decides (bytes_eq x y) (bytes_eq y x) (bytes_eq-Decides x y) (Decides-like (bytes_eq y x) sym sym (bytes_eq-Decides y x))
-
-pub puts_kind : (f : List ℕ → Option NodeKind) (old : Option NodeKind) (q shown : List ℕ) (kind : NodeKind) → f shown ≡ Some kind → cond (bytes_eq shown q) (Some kind) old ≡ cond (bytes_eq q shown && is_some (f shown)) (f q) old
+pub puts_kind : (f : List ℕ → Option NodeKind) (old : Option NodeKind) (q shown : List ℕ) (kind : NodeKind) → f shown ≡ Some kind
+    → cond (bytes_eq shown q) (Some kind) old ≡ cond (bytes_eq q shown && is_some (f shown)) (f q) old
 puts_kind f old q shown kind e =
     ap (λ b. cond b (Some kind) old) (bytes_eq_flip shown q)
     ∙ elim (bytes_eq q shown) as (λ b. bytes_eq q shown ≡ b → cond b (Some kind) old ≡ cond (b && is_some (f shown)) (f q) old) [
@@ -62,7 +64,8 @@ one_more false true here None h = sym (h refl)
 one_more true true here (Some kind) h = refl
 one_more false true here (Some kind) h = refl
 
-pub names_more : (f : List ℕ → Option NodeKind) (q : List ℕ) (names : List (List ℕ)) (i : ℕ) (shown : List ℕ) (old new : Option NodeKind) → i < length names → shown ≡ get_or names i shown → old ≡ cond (list_any (bytes_eq q) (take i names)) (f q) None → new ≡ cond (bytes_eq q shown && is_some (f shown)) (f q) old → new ≡ cond (list_any (bytes_eq q) (take (i + 1) names)) (f q) None
+pub names_more : (f : List ℕ → Option NodeKind) (q : List ℕ) (names : List (List ℕ)) (i : ℕ) (shown : List ℕ) (old new : Option NodeKind) → i < length names → shown ≡ get_or names i shown
+    → old ≡ cond (list_any (bytes_eq q) (take i names)) (f q) None → new ≡ cond (bytes_eq q shown && is_some (f shown)) (f q) old → new ≡ cond (list_any (bytes_eq q) (take (i + 1) names)) (f q) None
 names_more f q names i shown old new h here was is =
     is ∙ ap (cond (bytes_eq q shown && is_some (f shown)) (f q)) was
     ∙ one_more (list_any (bytes_eq q) (take i names)) (bytes_eq q shown) (f q) (f shown) (λ t. ap f ((bytes_eq-Decides q shown).0 t))
@@ -71,6 +74,7 @@ names_more f q names i shown old new h here was is =
     ∙ ap (λ all. cond (list_any (bytes_eq q) all) (f q) None) (sym (take_more names i shown h))
 
 -- all of them were
-pub names_done : (listed : Listed) (q : List ℕ) (names : List (List ℕ)) (i : ℕ) (found : Option NodeKind) → length names ≤ i → names ≡ names_to_show listed → found ≡ cond (list_any (bytes_eq q) (take i names)) (kind_shown listed q) None → found ≡ kind_shown listed q
+pub names_done : (listed : Listed) (q : List ℕ) (names : List (List ℕ)) (i : ℕ) (found : Option NodeKind) → length names ≤ i → names ≡ names_to_show listed
+    → found ≡ cond (list_any (bytes_eq q) (take i names)) (kind_shown listed q) None → found ≡ kind_shown listed q
 names_done listed q names i found all are is =
     is ∙ ap (λ some. cond (list_any (bytes_eq q) some) (kind_shown listed q) None) (take_all i names all ∙ are) ∙ names_all listed q

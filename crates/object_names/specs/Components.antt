@@ -34,9 +34,9 @@ name_fault name =
     else None
 
 -- a name is refused for its first fault, and for want of memory only where it has none
-abbrev pub Refuses : List ℕ → NameFault → Type 0
-Refuses name NoMemory = name_fault name ≡ None
-Refuses name fault = name_fault name ≡ Some fault
+abbrev pub IsRefusedFor : List ℕ → NameFault → Type 0
+IsRefusedFor name NoMemory = name_fault name ≡ None
+IsRefusedFor name fault = name_fault name ≡ Some fault
 
 -- what a name without a fault is
 pub record IsComponent (name : List ℕ) : Type 0 where

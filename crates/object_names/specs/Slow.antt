@@ -1,4 +1,4 @@
--- What the plain program of shown names is handed, and the map in which it keeps them.
+-- What the slow program of shown names is handed, and the map in which it keeps them.
 use Rattle.std.specs.Prelude.{◌≡◌, ℕ, ◌&&◌, List, map, String, string_bytes, is_some, if◌then◌else◌}
 use Rattle.std.specs.BTreeMap.{BTreeMap, get_by_text}
 use Rattle.std.specs.Str.{bytes_eq}

@@ -1,8 +1,9 @@
+//! The test of a name that stands between slashes.
 ghost use Rattle.std.specs.Prelude.{◌≡◌, IfOk, IfErr, OnOk, MatchResult, MatchOption, Some, None, true, false};
 ghost use Rattle.std.specs.List.{list_any};
 ghost use Rattle.std.specs.Str.{is_utf8};
 ghost use Rattle.object_names.specs.Components as components;
-ghost use Rattle.object_names.specs.Components.{name_fault, Refuses, IsComponent, is_slash, is_control};
+ghost use Rattle.object_names.specs.Components.{name_fault, IsRefusedFor, IsComponent, is_slash, is_control};
 
 use io_ports::Text;
 use std::alloc::Global;
@@ -57,7 +58,7 @@ impl Component {
         ensures valid { OnOk result (name_fault bytes.now ≡ None) }
         ensures component { OnOk result (IsComponent bytes.now) }
         ensures full { IsComponent bytes.now → IfErr result (λ fault. fault ≡ NameFault.NoMemory) }
-        ensures err { IfErr result (λ fault. Refuses bytes.now fault) }
+        ensures err { IfErr result (λ fault. IsRefusedFor bytes.now fault) }
     {
         match component_text(bytes) {
             Ok(text) => match Text::of(alloc, text) {

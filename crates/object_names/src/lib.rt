@@ -9,6 +9,6 @@ mod slow;
 mod tests;
 
 pub use component::{Component, NameFault, component_text};
-pub use path::{PATH_MAX, PathFault, dir_prefix, join};
+pub use path::{PATH_MAX, PathFault, dir_prefix, join, path_fits};
 pub use shown::{DirItem, NodeKind, entry_row, shown_name, strip_suffix};
 pub use slow::slow_entries;

@@ -1,4 +1,5 @@
-ghost use Rattle.std.specs.Prelude.{◌≡◌, ◌≤◌, ◌<◌, ◌++◌, ◌+◌, ◌^◌, length, ◌↔◌, IfOk, OnOk, OnErr};
+//! Paths of files and directories, and the prefixes of directories.
+ghost use Rattle.std.specs.Prelude.{◌≡◌, ◌≤◌, ◌<◌, ◌++◌, ◌+◌, ◌^◌, length, ◌↔◌, IsTrue, IfOk, OnOk, OnErr};
 ghost use Rattle.object_names.specs.Paths.{path_max, dir_prefix_of, IsPrefix, IsPath};
 
 use crate::component::Component;
@@ -27,13 +28,21 @@ pub fn join(alloc: Global, prefix: &str, part: &Component) -> Result<Text, PathF
     ensures long { (result ≡ Err PathFault.TooLong) ↔ (path_max < length (prefix.now ++ part.now)) }
 {
     let part = part.as_str();
-    if prefix.len() > PATH_MAX || part.len() > PATH_MAX - prefix.len() {
+    if !path_fits(prefix, part) {
         return Err(PathFault::TooLong);
     }
     match joined(alloc, prefix, part) {
         Ok(path) => Ok(path),
         Err(_) => Err(PathFault::NoMemory),
     }
+}
+
+/// Whether the path of a child has at most 1,023 bytes: the prefix of its parent, and the child's component. It is the
+/// test that [`join`] makes, and asks for no memory.
+pub fn path_fits(prefix: &str, part: &str) -> bool
+    ensures { IsTrue result ↔ (length (prefix.now ++ part.now) ≤ path_max) }
+{
+    prefix.len() <= PATH_MAX && part.len() <= PATH_MAX - prefix.len()
 }
 
 /// The prefix of the directory at a path: the path and a slash, or the empty text for the root, whose path is empty.

@@ -1,3 +1,4 @@
+//! The entries of a directory as they are defined, computed without haste.
 ghost use Rattle.std.specs.Prelude.{◌≡◌, ◌++◌, ◌∷◌, [], ◌&&◌, length, is_none, nat_le, IfOk, OnOk};
 ghost use Rattle.std.specs.List.{list_any};
 ghost use Rattle.std.specs.Str.{bytes_eq};
@@ -24,7 +25,7 @@ struct Source<'a> {
     implicit: bool,
 }
 
-/// The entries of a directory: the rules of what it shows as a plain program, which looks through all that was listed
+/// The entries of a directory: the rules of what it shows as a slow program, which looks through all that was listed
 /// for each name that may be shown. It is for small lists, to try the rules on.
 ///
 /// `prefix` is the directory's, `items` are the names of the objects that were listed with what each is, in the order of

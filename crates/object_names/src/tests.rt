@@ -1,3 +1,4 @@
+//! Names at the ends of their range, and what small directories show.
 use crate::{
     Component, NameFault, NodeKind, PathFault, dir_prefix, join, shown_name, slow_entries,
     strip_suffix,
@@ -151,8 +152,8 @@ fn shows_a_directory_before_the_file_that_it_hides(rt: HostRuntime) -> Result<()
 #[test]
 fn shows_only_what_lies_in_the_directory(rt: HostRuntime) -> Result<(), Fail> {
     let items = "d/ d/a\rb d/link@ d/link d/sub@";
-    let plain = shown(rt.alloc(), "d/", items, "d/../ d// d/sub/", false)?;
-    assert_eq!(rt; plain.as_str(), "link=s sub=s ");
+    let explicit = shown(rt.alloc(), "d/", items, "d/../ d// d/sub/", false)?;
+    assert_eq!(rt; explicit.as_str(), "link=s sub=s ");
     let implicit = shown(rt.alloc(), "d/", items, "d/../ d// d/sub/", true)?;
     assert_eq!(rt; implicit.as_str(), "link=s sub=d sub\n=s ");
     Ok(())

@@ -1,3 +1,4 @@
+-- One item more.
 use Rattle.std.proofs.Common.{◌++◌, ◌∷◌, [], sym, ap, ◌∙◌}
 use Rattle.dir_listing.specs.Steps.{kept_files}
 use Rattle.dir_listing.proofs.KeptLemmas.{dirs_more, kept_files-append}

@@ -1,3 +1,4 @@
+-- The directories and the files of the items so far.
 use Rattle.std.proofs.Common.{◌≡◌, Some, None, cond}
 use Rattle.object_names.specs.declared.shown.NodeKind.TheVariants.{Dir}
 use Rattle.dir_listing.specs.Steps.{Has, kept_dir, kept_files}

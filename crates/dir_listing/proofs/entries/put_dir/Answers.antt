@@ -1,3 +1,4 @@
+-- A placeholder puts its directory into the map.
 use Rattle.std.proofs.Common.{Some, sym, ap, ◌∙◌, cond, ◌&&◌, string_bytes}
 use Rattle.std.proofs.lemmas.Map.Text.{btree_map_updates_text}
 use Rattle.std.specs.BTreeMap.{get_by_text}

@@ -1,3 +1,4 @@
+-- One prefix more.
 use Rattle.dir_listing.proofs.KeptLemmas.{implied_more}
 use Rattle.dir_listing.proofs.entries.put_dirs.Goals as goal
 

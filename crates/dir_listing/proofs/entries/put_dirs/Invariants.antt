@@ -1,3 +1,4 @@
+-- The directories of the prefixes so far.
 use Rattle.std.proofs.Common.{true}
 use Rattle.dir_listing.specs.Steps.{PutsDirs}
 use Rattle.dir_listing.proofs.entries.put_dirs.Given as goal

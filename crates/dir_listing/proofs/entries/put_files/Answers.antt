@@ -1,3 +1,4 @@
+-- One file more.
 use Rattle.dir_listing.proofs.FileLemmas.{files_more}
 use Rattle.dir_listing.proofs.entries.put_files.Goals as goal
 

@@ -1,3 +1,4 @@
+-- The files so far.
 use Rattle.dir_listing.specs.Steps.{PutsFiles}
 use Rattle.dir_listing.proofs.entries.put_files.Given as goal
 

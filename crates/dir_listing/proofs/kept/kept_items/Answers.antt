@@ -1,3 +1,4 @@
+-- One item more is kept.
 use Rattle.std.proofs.Common.{map, ap, ◌∙◌, arith}
 use Rattle.dir_listing.specs.Names.{told}
 use Rattle.dir_listing.proofs.KeptLemmas.{items_more, fits_more}

@@ -1,3 +1,4 @@
+-- What is kept of the items so far.
 use Rattle.std.proofs.Common.{◌≡◌, map, take}
 use Rattle.dir_listing.specs.Names.{told, FitsAll}
 use Rattle.dir_listing.specs.Pages.{item_of}

@@ -1,3 +1,4 @@
+-- One prefix more is kept.
 use Rattle.std.proofs.Common.{map, ap, ◌∙◌, arith}
 use Rattle.dir_listing.specs.Names.{kept_name}
 use Rattle.dir_listing.proofs.KeptLemmas.{prefixes_more, fits_more}

@@ -1,3 +1,4 @@
+-- What is kept of the prefixes so far.
 use Rattle.std.proofs.Common.{◌≡◌, map, take}
 use Rattle.dir_listing.specs.Names.{kept_name, FitsAll}
 use Rattle.dir_listing.proofs.kept.kept_prefixes.Given as goal

@@ -1,3 +1,4 @@
+-- What begins with the prefix has a rest.
 use Rattle.std.proofs.lemmas.Bool.Decides.{Decides-eqb}
 use Rattle.std.proofs.lemmas.Slice.Eq.{strip_prefix_is}
 use Rattle.dir_listing.proofs.roles.rest_of.Goals as goal

@@ -1,3 +1,4 @@
+-- A listed name is a placeholder's, a file's, or gives no entry.
 use Rattle.std.proofs.Common.{sym, ◌∙◌}
 use Rattle.dir_listing.proofs.PartLemmas.{no_directory}
 use Rattle.dir_listing.proofs.roles.role_of.Goals as goal

@@ -1,3 +1,4 @@
+-- A part can be shown that is a component.
 use Rattle.dir_listing.proofs.PartLemmas.{no_component}
 use Rattle.dir_listing.proofs.roles.shown_part.Goals as goal
 

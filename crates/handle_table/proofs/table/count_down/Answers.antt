@@ -1,3 +1,4 @@
+-- One handle less on a node.
 use Rattle.std.proofs.Common.{◌≡◌, ◌-◌, Some, cond, nat_eq, sym, ap, ◌∙◌, unwrap_or, arith}
 use Rattle.std.specs.FinMap as fin
 use Rattle.handle_table.specs.Handles.{count_at}

@@ -1,3 +1,4 @@
+-- One handle more on a node.
 use Rattle.std.proofs.Common.{◌≡◌, ◌+◌, None, Some, cond, nat_eq, sym, ap, ◌∙◌, unwrap_or}
 use Rattle.std.specs.FinMap as fin
 use Rattle.handle_table.specs.Handles.{count_at}

@@ -1,3 +1,4 @@
+-- A node that is there may be looked up.
 use Rattle.std.proofs.Common.{is_some, sym, ap, arith}
 use Rattle.std.specs.Option.{option_map_or}
 use Rattle.inode_table.specs.declared.inode.Inode.{Inode}

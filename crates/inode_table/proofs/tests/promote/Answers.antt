@@ -1,3 +1,4 @@
+-- A node has the name that was copied of it.
 use Rattle.std.proofs.Common.{sym}
 use Rattle.inode_table.proofs.tests.promote.Goals as goal
 

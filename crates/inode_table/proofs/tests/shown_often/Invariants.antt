@@ -1,3 +1,4 @@
+-- Each turn gives one number.
 use Rattle.std.proofs.Common.{◌+◌, ◌-◌, ◌<◌, ◌^◌}
 use Rattle.inode_table.proofs.tests.shown_often.Given as goal
 

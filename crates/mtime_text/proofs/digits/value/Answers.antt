@@ -1,3 +1,4 @@
+-- One digit more.
 use Rattle.std.proofs.Common.{arith}
 use Rattle.mtime_text.proofs.DigitLemmas.{digit_more, power_below}
 use Rattle.mtime_text.proofs.digits.value.Goals as goal

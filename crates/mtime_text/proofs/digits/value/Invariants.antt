@@ -1,3 +1,4 @@
+-- The number of the digits so far.
 use Rattle.std.proofs.Common.{◌≡◌, ◌^◌, ◌<◌, take}
 use Rattle.std.specs.Str.Parse.{digits_value}
 use Rattle.mtime_text.proofs.digits.value.Given as goal

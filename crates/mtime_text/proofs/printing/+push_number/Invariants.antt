@@ -1,3 +1,4 @@
+-- The width that is left falls.
 use Rattle.mtime_text.proofs.printing.+push_number.Given as goal
 
 abbrev pub decreases-push_number : goal.decreases-push_number

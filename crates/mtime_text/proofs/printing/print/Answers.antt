@@ -1,3 +1,4 @@
+-- What is printed is the text of the parts.
 use Rattle.std.proofs.Common.{◌≡◌, ◌/◌, ◌%◌, List, ℕ, [], ◌∷◌, ◌++◌, ◌∙◌, append_assoc, unsigned_abs}
 use Rattle.mtime_text.specs.Spelling.{capital_t, capital_z, dot, date_text, clock_text, fraction_text, offset_text}
 use Rattle.mtime_text.specs.Printed.{year_of, month_of, day_of, printed_text}

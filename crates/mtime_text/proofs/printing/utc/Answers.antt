@@ -1,3 +1,4 @@
+-- The clock in UTC shows the parts of the second.
 use Rattle.std.proofs.Common.{◌≡◌, ◌+◌, ◌*◌, arith, pos}
 use Rattle.jiff_core.specs.DateTime.{civil_nanos}
 use Rattle.jiff_core.proofs.SignedLemmas.{signed_casts}

@@ -1,3 +1,4 @@
+-- A day's number fits.
 use Rattle.std.proofs.Common.{◌≡◌, refl, arith, pos, to_z, of_z, w32}
 use Rattle.std.specs.Int.{w8, w16}
 use Rattle.std.proofs.lemmas.Int.{to_z_pos}

@@ -1,3 +1,4 @@
+-- Nanoseconds are the decimals, filled up to nine places.
 use Rattle.std.proofs.Common.{arith}
 use Rattle.mtime_text.proofs.DigitLemmas.{scaled_below}
 use Rattle.mtime_text.proofs.reading.nanoseconds.Goals as goal

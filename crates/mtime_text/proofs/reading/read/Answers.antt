@@ -1,3 +1,4 @@
+-- What is read is on the grammar, and what is on the grammar is read.
 use Rattle.std.proofs.Common.{ap, ◌∙◌}
 use Rattle.mtime_text.specs.Reading.{mtime_of}
 use Rattle.mtime_text.proofs.GrammarLemmas.{time_again}

@@ -1,3 +1,4 @@
+-- Bytes are a text where they are UTF-8.
 use Rattle.std.proofs.lemmas.Str.{is_utf8-from_IsUtf8}
 use Rattle.object_names.proofs.ComponentLemmas.{is_utf8-not_text}
 use Rattle.object_names.proofs.component.text_of.Goals as goal

@@ -1,3 +1,4 @@
+-- The prefix of the directory at a path is the path and a slash.
 use Rattle.std.proofs.Common.{◌≡◌, ◌++◌, ◌∷◌, [], subst, sym}
 use Rattle.std.proofs.lemmas.Result.{IfOk-weaker}
 use Rattle.object_names.specs.Paths.{IsPrefix}

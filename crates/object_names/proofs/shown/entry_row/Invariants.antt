@@ -1,3 +1,4 @@
+-- The entries so far.
 use Rattle.std.proofs.Common.{◌≡◌}
 use Rattle.object_names.specs.Slow.{items_of}
 use Rattle.object_names.proofs.shown.entry_row.Given as goal

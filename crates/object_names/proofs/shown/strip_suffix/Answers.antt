@@ -1,3 +1,4 @@
+-- The suffix is the one byte at the end.
 use Rattle.std.proofs.Common.{Some, ◌++◌, ap, ◌∙◌}
 use Rattle.std.proofs.lemmas.Bool.Decides.{Decides-eqb}
 use Rattle.std.proofs.lemmas.Slice.Eq.{strip_suffix_is}

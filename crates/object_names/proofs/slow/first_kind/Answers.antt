@@ -1,3 +1,4 @@
+-- The first item of the name tells the kind.
 use Rattle.std.proofs.Common.{sym, ◌∙◌, arith}
 use Rattle.object_names.proofs.SlowLemmas.{first_kind-found, first_kind-passed}
 use Rattle.object_names.proofs.slow.first_kind.Goals as goal

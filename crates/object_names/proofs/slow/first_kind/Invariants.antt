@@ -1,3 +1,4 @@
+-- No item so far has the name.
 use Rattle.std.proofs.Common.{◌≡◌, drop}
 use Rattle.object_names.specs.ShownNames.{first_kind}
 use Rattle.object_names.proofs.slow.first_kind.Given as goal

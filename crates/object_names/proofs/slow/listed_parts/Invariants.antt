@@ -1,3 +1,4 @@
+-- The parts of the listed names so far.
 use Rattle.std.proofs.Common.{◌≡◌, ◌++◌, map, take}
 use Rattle.object_names.specs.ShownNames.{part_of}
 use Rattle.object_names.proofs.slow.listed_parts.Given as goal

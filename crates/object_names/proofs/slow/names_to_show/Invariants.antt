@@ -1,3 +1,4 @@
+-- The names to show of the parts so far.
 use Rattle.std.proofs.Common.{◌≡◌, ◌++◌, true, map, take}
 use Rattle.object_names.specs.Paths.{shown_of}
 use Rattle.object_names.specs.ShownNames.{listed_parts}

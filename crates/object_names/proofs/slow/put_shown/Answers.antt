@@ -1,3 +1,4 @@
+-- What is shown under one name is put in.
 use Rattle.std.proofs.Common.{Some, sym, ◌∙◌, string_bytes, ap, cond}
 use Rattle.std.proofs.lemmas.Map.Text.{btree_map_updates_text}
 use Rattle.std.specs.BTreeMap.{get_by_text}

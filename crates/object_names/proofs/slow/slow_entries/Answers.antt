@@ -1,3 +1,4 @@
+-- What is shown under each name is what the entries have.
 use Rattle.std.proofs.Common.{◌≡◌, ◌&&◌, cond, is_some, sym, ap, subst, ◌∙◌, arith}
 use Rattle.std.proofs.lemmas.Result.{IfOk-weaker}
 use Rattle.std.specs.BTreeMap.{get_by_text}

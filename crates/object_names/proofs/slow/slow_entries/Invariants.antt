@@ -1,3 +1,4 @@
+-- What is shown under the names so far.
 use Rattle.std.proofs.Common.{◌≡◌, ℕ, List, None, take, cond}
 use Rattle.std.specs.BTreeMap.{get_by_text}
 use Rattle.std.specs.List.{list_any}

@@ -1,3 +1,4 @@
+-- The entries are what is shown of the directory.
 use Rattle.std.proofs.Common.{◌≡◌, ap, subst, sym, ◌∙◌}
 use Rattle.std.proofs.lemmas.Result.{IfOk-weaker}
 use Rattle.object_names.specs.ShownNames.{kind_shown, shown_entries, Shows}

@@ -1,3 +1,4 @@
+-- A node is held that has a count.
 use Rattle.std.proofs.Common.{ap, ◌∙◌, unwrap_or}
 use Rattle.handle_table.specs.Handles.{open_on}
 use Rattle.handle_table.proofs.HandleLemmas.{held_answer}

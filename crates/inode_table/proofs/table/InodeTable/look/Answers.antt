@@ -1,13 +1,14 @@
+-- One look-up more.
 use Rattle.std.proofs.Common.{refl, arith}
 use Rattle.inode_table.specs.Inodes.{Inodes}
-use Rattle.inode_table.proofs.TableLemmas.{IsTable-written}
+use Rattle.inode_table.proofs.TableLemmas.{IsInodeTable-written}
 use Rattle.inode_table.proofs.table.InodeTable.look.Goals as goal
 
 pub invariant_of-self : goal.invariant_of-self
 invariant_of-self c =
     let table : Inodes = record { nodes = c.self.inside.nodes.map; current = c.self.inside.current.map; next = c.self.inside.next; spare = c.self.inside.room } in
     record {
-      table = IsTable-written table c.args.node c.value_mut-inode.result.now _ c.self.invariant.table c.value_mut-inode.ensures.value refl refl (λ _. omega arith);
+      table = IsInodeTable-written table c.args.node c.value_mut-inode.result.now _ c.self.invariant.table c.value_mut-inode.ensures.value refl refl (λ _. omega arith);
       node_room = c.self.invariant.node_room;
       name_room = c.self.invariant.name_room;
     }

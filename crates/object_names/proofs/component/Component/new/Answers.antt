@@ -1,3 +1,4 @@
+-- A component is a name without a fault.
 use Rattle.std.proofs.Common.{◌≡◌, None}
 use Rattle.object_names.specs.Components.{name_fault}
 use Rattle.object_names.proofs.ComponentLemmas.{no_fault-from_IsComponent}

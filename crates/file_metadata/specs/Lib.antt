@@ -1,0 +1,2 @@
+-- The words that the contracts of `file_metadata` cite.
+pub mod FileMetadata

@@ -1,0 +1,6 @@
+-- Each turn gives one number.
+use Rattle.std.proofs.Common.{◌+◌, ◌-◌, ◌<◌, ◌^◌}
+use Rattle.handle_table.proofs.tests.open_often.Given as goal
+
+abbrev pub invariant-loop-turn : goal.invariant-loop-turn
+invariant-loop-turn l = l.table.next + (l.count - l.turn) < 2 ^ 61
