@@ -17,6 +17,7 @@ use crate::node_table::NodeTable;
 use crate::refusals::{is_init, is_silent, refusal};
 use crate::store::Store;
 use bucket_plain::Plain;
+use file_metadata::LAST_SECOND;
 use fuse_replies::Reply;
 use fuse_replies::errno::{ENOMEM, EPROTO};
 use fuse_requests::Request;
@@ -25,9 +26,6 @@ use io_ports::{NoMemory, Text};
 use mount_model::Config;
 use std::alloc::Global;
 use std::marker::Model;
-
-/// The greatest second of a time.
-const LAST_SECOND: u64 = 249_999_999_999;
 
 /// A mount on one thread, over a bucket of its own. Contracts see its settings and what its requests have left.
 #[derive(Drop)]

@@ -2,6 +2,7 @@
 use Rattle.std.specs.Prelude.{ℕ, ◌+◌, min, Bool, true, false, ◌==◌, ◌&&◌, ◌||◌, not, List, [], ◌∷◌, Option, Some, None, if◌then◌else◌}
 use Rattle.std.specs.Option.{option_map_or}
 use Rattle.std.specs.List.{list_any}
+use Rattle.file_metadata.specs.FileMetadata.{last_second}
 use Rattle.fuse_replies.specs.declared.reply.Reply.{Reply}
 use Rattle.fuse_replies.specs.declared.reply.Reply.TheVariants.{Error, Silent}
 use Rattle.fuse_requests.specs.declared.request.Request.{Request}
@@ -58,7 +59,7 @@ early mount request =
 
 -- the second of a call, which stamps its operations: the start and the tick, as far as times go
 abbrev pub second_of : Config → MountModel → ℕ
-second_of config mount = min (config.start + mount.tick) 249999999999
+second_of config mount = min (config.start + mount.tick) last_second
 
 -- what a request that isn't refused asks of the bucket, after what it has observed
 abbrev pub plan_of : Config → MountModel → Request → List Observation → Step

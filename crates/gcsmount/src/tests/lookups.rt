@@ -8,6 +8,7 @@ use crate::node_table::{NodeTable, ROOT};
 use crate::store::Store;
 use bucket_api::{Op, Pair, allowed};
 use bucket_plain::Plain;
+use file_metadata::TARGET_KEY;
 use fuse_replies::Reply;
 use io_ports::{Bytes, NoMemory, Row, Text};
 use mount_model::Config;
@@ -102,7 +103,7 @@ fn target(alloc: Global) -> Result<Row<Pair>, NoMemory>
     let mut pairs = Row::new(alloc);
     pairs.reserve(1)?;
     pairs.push(Pair {
-        key: Text::of(alloc, "gcsfuse_symlink_target")?,
+        key: Text::of(alloc, TARGET_KEY)?,
         value: Text::of(alloc, "t/u")?,
     });
     Ok(pairs)
