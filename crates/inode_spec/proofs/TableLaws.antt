@@ -197,20 +197,22 @@ module _ {F : Type 0} where
       fewer : (lookups : ℕ) → nat_le lookups count ≡ false → 0 < lookups - count
       fewer lookups e = grind (arith, nat_tests)
 
-  -- a node that is live no more is current of no name
+  -- a node that is live no more is current of no name, so it may go
+  pub IsTable-removed : (table : Inodes F) (number : ℕ) (inode : Inode F) → IsTable table → fin.get table.nodes number ≡ Some inode → is_live number inode ≡ false
+      → IsTable (record table { nodes = fin.remove table.nodes number })
+  IsTable-removed table number inode t e dead =
+      IsTable-left table number inode (fin.remove table.nodes number) table.current t
+      (λ p. false≢true (sym dead ∙ ap (λ b. b || nat_lt 0 inode.lookups) ((Decides-eqb number root_number).1 p)))
+      e (λ n p. number_taken_other table.nodes number n p)
+      (λ q n c. (λ p. false≢true (sym dead ∙ was_live q n c p), c))
+    where
+      was_live : (q : List ℕ) (n : ℕ) → fin.get table.current q ≡ Some n → n ≡ number → is_live number inode ≡ true
+      was_live q n c p =
+          let was = t.own_name q n c in
+          ap (is_live number) (same_Some inode was.inode (sym e ∙ ap (fin.get table.nodes) (sym p) ∙ was.there)) ∙ ap (λ m. is_live m was.inode) (sym p) ∙ was.live
+
   pub IsTable-let_go : (table : Inodes F) (number : ℕ) → IsTable table → IsTable (let_go table number)
   IsTable-let_go table number t =
       on_found IsTable (fin.get table.nodes number) (λ inode. if is_live number inode then table else record table { nodes = fin.remove table.nodes number }) table
       (λ _. t)
-      (λ inode e. on_test IsTable (is_live number inode) table (record table { nodes = fin.remove table.nodes number })
-      (λ _. t)
-      (λ dead. IsTable-left table number inode (fin.remove table.nodes number) table.current t (not_root (nat_eq number root_number) refl inode dead) e
-      (λ n p. number_taken_other table.nodes number n p)
-      (λ q n c. (
-        λ p. let was = t.own_name q n c in
-            false≢true (sym dead ∙ ap (is_live number) (same_Some inode was.inode (sym e ∙ ap (fin.get table.nodes) (sym p) ∙ was.there)) ∙ ap (λ m. is_live m was.inode) (sym p) ∙ was.live),
-        c,
-      ))))
-    where
-      not_root : (is_root : Bool) → nat_eq number root_number ≡ is_root → (inode : Inode F) → is_live number inode ≡ false → number ≢ root_number
-      not_root is_root e inode dead p = false≢true (sym dead ∙ ap (λ b. b || nat_lt 0 inode.lookups) ((Decides-eqb number root_number).1 p))
+      (λ inode e. on_test IsTable (is_live number inode) table (record table { nodes = fin.remove table.nodes number }) (λ _. t) (IsTable-removed table number inode t e))

@@ -1,2 +1,2 @@
-pub mod CountLemmas
-pub mod TableLemmas
+-- Laws of what holds of every table.
+pub mod HeldLaws
