@@ -3,6 +3,8 @@
 
 mod inode;
 mod table;
+#[cfg(test)]
+mod tests;
 
 pub use inode::Inode;
 pub use table::InodeTable;
