@@ -6,20 +6,10 @@ use Rattle.std.proofs.lemmas.Option.{same_Some}
 use Rattle.std.specs.Cmp.Lexicographic.{slice_cmp}
 use Rattle.std.specs.FinMap as fin
 use Rattle.std.specs.Option.{option_map_or}
+use Rattle.base_laws.proofs.Tests.{either_of, same_or_not}
 use Rattle.spare_maps.proofs.FinMaps.{number_put, number_put_same, number_put_other, number_taken_other, name_put, name_taken}
 use Rattle.inode_spec.specs.Inodes.{Inode, Inodes, Nodes, Names, IsTable, IsLiveUnder, root, root_number, first_table, is_live, with_inode, granted, looked_up, looked, with_file, left_without, without_current, forgotten_at, forgotten, let_go, detached, made_current}
 use Rattle.inode_spec.proofs.Cases.{on_test, on_found}
-
--- two numbers are the same or not
-same_or_not : (n m : ℕ) → (n ≡ m) ⊎ (n ≢ m)
-same_or_not n m = elim (nat_eq n m) as (λ b. nat_eq n m ≡ b → (n ≡ m) ⊎ (n ≢ m)) [
-  | true ↦ λ e. inl ((Decides-eqb n m).0 e)
-  | false ↦ λ e. inr (λ p. false≢true (sym e ∙ (Decides-eqb n m).1 p))
-] refl
-
-either_of : {A B C : Type 0} → A ⊎ B → (A → C) → (B → C) → C
-either_of (inl a) f g = f a
-either_of (inr b) f g = g b
 
 -- a node that has a look-up, or is the root, is live
 live_by : (is_root : Bool) (old new : ℕ) → (0 < old → 0 < new) → (is_root || nat_lt 0 old) ≡ true → (is_root || nat_lt 0 new) ≡ true

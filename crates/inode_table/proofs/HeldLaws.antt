@@ -1,5 +1,5 @@
 -- What holds of the two maps of a table after one change.
-use Rattle.std.proofs.Common.{◌≡◌, ◌≢◌, ◌≤◌, ◌<◌, ◌+◌, ◌⊎◌, inl, inr, ℕ, Bool, true, false, List, Option, Some, None, refl, sym, ap, subst, ◌∙◌, is_some, ◌&&◌, ◌||◌, nat_lt, nat_eq, nat_cmp, arith}
+use Rattle.std.proofs.Common.{◌≡◌, ◌≢◌, ◌≤◌, ◌⊎◌, inl, inr, ℕ, Bool, true, false, Option, Some, None, refl, sym, ap, subst, ◌∙◌, is_some, ◌&&◌, ◌||◌, nat_lt, nat_eq, nat_cmp, arith}
 use Rattle.std.proofs.lemmas.Bool.Decides.{Decides-eqb, nat_tests}
 use Rattle.std.specs.Cmp.{nat_cmp_total}
 use Rattle.std.specs.FinMap as fin
@@ -26,7 +26,7 @@ IsTable-of nodes current next m n e f t =
     subst (λ x. IsTable (record { nodes = x; current = current.map; next = next })) (sym e) (subst (λ x. IsTable (record { nodes = m; current = x; next = next })) (sym f) t)
 
 -- a node that was found is spent
-pub IsTable-found_spent : {F : Type 0} (table : Inodes F) (number : ℕ) (held : Bool) (found : Option (Inode F)) → IsTable table → number ≢ root_number
+IsTable-found_spent : {F : Type 0} (table : Inodes F) (number : ℕ) (held : Bool) (found : Option (Inode F)) → IsTable table → number ≢ root_number
     → fin.get table.nodes number ≡ found
     → IsTable (record table {
       nodes = option_map_or (left_without table.nodes number held) found table.nodes;
@@ -70,6 +70,21 @@ module _ {F : Type 0} (nodes : Nodes F) (before after : ℕ) (later : before ≤
       (fin.insert nodes number (record old { lookups = 0 })) (fin.remove nodes number)
       (λ _. AreAtMost-put number (record old { lookups = 0 }) (omega arith))
       (λ _. AreAtMost-taken number)
+
+-- ---- a node that is spent
+pub IsHeldTable-spent : {F : Type 0} (nodes : Numbered (Inode F)) (current : Named) (next given room : ℕ) → IsHeldTable nodes current next given room
+    → (number : ℕ) (held : Bool) (new_nodes : Numbered (Inode F)) (new_current : Named) → number ≢ root_number
+    → new_nodes.map ≡ option_map_or (left_without nodes.map number held) (fin.get nodes.map number) nodes.map → new_nodes.spare ≡ nodes.spare
+    → new_current.map ≡ option_map_or (λ inode. without_current current.map inode.name number) (fin.get nodes.map number) current.map → new_current.spare ≡ current.spare
+    → IsHeldTable new_nodes new_current next given room
+IsHeldTable-spent nodes current next given room is number held new_nodes new_current other left node_room names name_room = record {
+  table = IsTable-of new_nodes new_current next _ _ left names (IsTable-found_spent (table_of nodes current next) number held (fin.get nodes.map number) is.table other refl);
+  counts = subst (λ m. AreAtMost m given) (sym left) (AreAtMost-spent nodes.map given given (omega arith) is.counts number held (fin.get nodes.map number));
+  numbers = is.numbers;
+  bounded = is.bounded;
+  node_room = omega (arith, node_room, is.node_room);
+  name_room = omega (arith, name_room, is.name_room);
+}
 
 -- ---- a node that is written anew, with its name and its look-ups
 pub IsHeldTable-written : {F : Type 0} (nodes : Numbered (Inode F)) (current : Named) (next given room : ℕ) → IsHeldTable nodes current next given room

@@ -1,11 +1,10 @@
 -- A node has fewer look-ups, or none.
-use Rattle.std.proofs.Common.{refl, sym, ap, ◌∙◌, subst, arith}
+use Rattle.std.proofs.Common.{sym, ap, ◌∙◌, arith}
 use Rattle.std.proofs.lemmas.Option.{same_Some}
-use Rattle.std.specs.FinMap as fin
 use Rattle.std.specs.Option.{option_copied}
 use Rattle.inode_spec.proofs.TableLaws.{IsTable-written}
 use Rattle.inode_table.specs.Tables.{table_of}
-use Rattle.inode_table.proofs.HeldLaws.{IsTable-of, IsTable-found_spent, AreAtMost, AreAtMost-put, AreAtMost-spent}
+use Rattle.inode_table.proofs.HeldLaws.{AreAtMost-put, IsHeldTable-spent}
 use Rattle.inode_table.proofs.table.InodeTable.forget.Goals as goal
 
 pub invariant_of-self : goal.invariant_of-self
@@ -29,15 +28,6 @@ invariant_of-self g c =
 
 pub invariant_of-self-2 : goal.invariant_of-self-2
 invariant_of-self-2 g c =
-    let was = table_of c.self.inside.nodes c.self.inside.current c.self.inside.next in
-    let found = fin.get c.self.inside.nodes.map c.args.node in
-    record {
-      table = IsTable-of c.drop_unless_held.new.nodes c.leave.new.current c.self.inside.next _ _ c.drop_unless_held.ensures.nodes c.leave.ensures.names
-          (IsTable-found_spent was c.args.node c.args.held found c.self.invariant.table c.if-node-eq-ROOT.false refl);
-      counts = subst (λ nodes. AreAtMost nodes c.self.inside.given) (sym c.drop_unless_held.ensures.nodes)
-          (AreAtMost-spent c.self.inside.nodes.map c.self.inside.given c.self.inside.given (omega arith) c.self.invariant.counts c.args.node c.args.held found);
-      numbers = c.self.invariant.numbers;
-      bounded = c.self.invariant.bounded;
-      node_room = omega (arith, c.drop_unless_held.ensures.spare, c.self.invariant.node_room);
-      name_room = omega (arith, c.leave.ensures.spare, c.self.invariant.name_room);
-    }
+    IsHeldTable-spent c.self.inside.nodes c.self.inside.current c.self.inside.next c.self.inside.given c.self.inside.room c.self.invariant
+    c.args.node c.args.held c.drop_unless_held.new.nodes c.leave.new.current c.if-node-eq-ROOT.false
+    c.drop_unless_held.ensures.nodes c.drop_unless_held.ensures.spare c.leave.ensures.names c.leave.ensures.spare

@@ -1,5 +1,5 @@
 -- The root alone, without look-ups.
-use Rattle.std.proofs.Common.{◌∙◌, sym, ap, subst, refl, arith}
+use Rattle.std.proofs.Common.{◌∙◌, sym, ap, subst, arith}
 use Rattle.std.specs.FinMap as fin
 use Rattle.inode_spec.proofs.CountLaws.{counts_decide}
 use Rattle.inode_spec.proofs.TableLaws.{IsTable-first}
