@@ -35,14 +35,6 @@ IsTable-found_spent : {F : Type 0} (table : Inodes F) (number : ℕ) (held : Boo
 IsTable-found_spent table number held None t other e = t
 IsTable-found_spent table number held (Some inode) t other e = IsTable-spent table number held inode t other e
 
--- a node other than the root is not live without look-ups
-pub is_dead : {F : Type 0} (number : ℕ) (inode : Inode F) → number ≢ root_number → inode.lookups ≤ 0 → is_live number inode ≡ false
-is_dead number inode other none = by (nat_eq number root_number) refl
-  where
-    by : (is_root : Bool) → nat_eq number root_number ≡ is_root → (is_root || nat_lt 0 inode.lookups) ≡ false
-    by true e = absurd (other ((Decides-eqb number root_number).0 e))
-    by false e = grind (arith, nat_tests)
-
 -- ---- no node has more look-ups than this
 abbrev pub AreAtMost : {F : Type 0} → Nodes F → ℕ → Type 0
 AreAtMost {F} nodes most = (number : ℕ) (inode : Inode F) → fin.get nodes number ≡ Some inode → inode.lookups ≤ most

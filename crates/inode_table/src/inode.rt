@@ -2,6 +2,7 @@
 ghost use Rattle.std.specs.Prelude.{◌≡◌, ◌<◌, ◌^◌, ◌&&◌, is_some, IfOk};
 ghost use Rattle.std.specs.Borrow.{sem};
 ghost use Rattle.std.specs.Option.{option_copied_mut};
+ghost use Rattle.inode_spec.specs.Inodes as spec;
 ghost use Rattle.inode_spec.specs.Inodes.{root, looked_up};
 ghost use Rattle.inode_table.specs.Lending.{LendsFile};
 
@@ -9,6 +10,9 @@ use io_ports::{NoMemory, Text};
 use object_names::NodeKind;
 use std::alloc::Global;
 use std::marker::Model;
+
+/// The number of the root: `FUSE_ROOT_ID` of fuse.h.
+pub(crate) const ROOT: u64 = 1;
 
 /// A node: a file, directory or symlink that the kernel was shown and may name by its number.
 #[derive(Debug, Drop)]
@@ -53,6 +57,13 @@ impl<F: Drop> Inode<F> {
         ensures { self.new ≡ looked_up self.old }
     {
         self.lookups += 1;
+    }
+
+    /// Whether the node of this number is the root, or has look-ups.
+    pub(crate) fn is_live(&self, number: u64) -> bool
+        ensures { result ≡ spec.is_live number self.now }
+    {
+        number == ROOT || self.lookups > 0
     }
 
     /// Whether the node stays without look-ups: it is a file or symlink, and a handle holds it.

@@ -8,15 +8,12 @@ ghost use Rattle.inode_spec.specs.Inodes.{IsTable, IsLiveUnder, first_table, gra
 ghost use Rattle.inode_spec.specs.Counts.{CountsDecide};
 ghost use Rattle.inode_table.specs.Lending.{LendsFileOf};
 
-use crate::inode::Inode;
+use crate::inode::{Inode, ROOT};
 use io_ports::{NoMemory, Text};
 use object_names::NodeKind;
 use spare_maps::{NameMap, NumberMap};
 use std::alloc::Global;
 use std::marker::Model;
-
-/// The number of the root: `FUSE_ROOT_ID` of fuse.h.
-const ROOT: u64 = 1;
 
 /// The most look-ups that a table ever gives, so that no number comes to its end.
 const MOST_LOOKUPS: u64 = 1 << 48;
@@ -204,13 +201,10 @@ impl<F: Drop> InodeTable<F> {
         ensures table { self.new.table ≡ spec.let_go self.old.table node }
         ensures spare { self.new.spare ≡ self.old.spare }
     {
-        if node == ROOT {
-            return;
-        }
         let Some(inode) = self.nodes.get(node) else {
             return;
         };
-        if inode.lookups > 0 {
+        if inode.is_live(node) {
             return;
         }
         let _ = self.nodes.remove(node);
