@@ -1,6 +1,5 @@
 -- What holds of the two maps of a table after one change.
-use Rattle.std.proofs.Common.{◌≡◌, ◌≢◌, ◌≤◌, ◌⊎◌, inl, inr, ℕ, Bool, true, false, Option, Some, None, refl, sym, ap, subst, ◌∙◌, is_some, ◌&&◌, ◌||◌, nat_lt, nat_eq, nat_cmp, arith}
-use Rattle.std.proofs.lemmas.Bool.Decides.{Decides-eqb, nat_tests}
+use Rattle.std.proofs.Common.{◌≡◌, ◌≢◌, ◌≤◌, ◌⊎◌, inl, inr, ℕ, Bool, true, false, Option, Some, None, refl, sym, ap, subst, ◌∙◌, is_some, ◌&&◌, nat_cmp, arith}
 use Rattle.std.specs.Cmp.{nat_cmp_total}
 use Rattle.std.specs.FinMap as fin
 use Rattle.std.specs.Option.{option_map_or}
@@ -8,7 +7,7 @@ use Rattle.spare_maps.proofs.FinMaps.{get-insert_number, number_put, number_put_
 use Rattle.spare_maps.specs.SpareMaps.{Numbered, Named}
 use Rattle.inode_spec.proofs.Cases.{on_test, where_kept}
 use Rattle.inode_spec.proofs.TableLaws.{IsTable-spent, IsTable-written}
-use Rattle.inode_spec.specs.Inodes.{Inode, Inodes, Nodes, Names, IsTable, root_number, is_live, with_inode, with_file, left_without, without_current}
+use Rattle.inode_spec.specs.Inodes.{Inode, Inodes, Nodes, Names, IsTable, root_number, with_inode, with_file, left_without, without_current}
 use Rattle.inode_table.specs.Tables.{TableState, IsHeldTable, table_of}
 
 -- ---- what is there
