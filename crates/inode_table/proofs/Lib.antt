@@ -1,3 +1,2 @@
--- The laws that the proofs of `inode_table` cite.
-pub mod CountLemmas
-pub mod TableLemmas
+-- Laws of what holds of every table.
+pub mod HeldLaws

@@ -1,4 +1,4 @@
--- The words that the contracts of `inode_table` cite.
-pub mod Calls
-pub mod Inodes
-pub mod InodeCode
+-- The words that the contracts of `inode_table` cite, beside those of `inode_spec`.
+pub mod Codes
+pub mod Lending
+pub mod Tables
