@@ -1,0 +1,5 @@
+-- The words that the contracts of `claims` cite.
+pub mod ClaimCode
+pub mod HeldClaims
+pub mod Tallies
+pub mod NameRoom
