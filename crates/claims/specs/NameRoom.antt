@@ -5,7 +5,7 @@ use Rattle.std.specs.Coded.{Coded, code_by, coded×, coded_ℕ, coded_list}
 use Rattle.std.specs.FinMap as fin
 use Rattle.std.specs.Ordering.{nat_cmp}
 use Rattle.claims.specs.declared.tally.Tally.{Tally}
-use Rattle.claims.specs.Tallies.{tally_code}
+use Rattle.claims.specs.TallyWords.{tally_code}
 
 -- a map from names, by their bytes, to tallies, and for how many more names there is room
 pub record NamedTallies : Type 0 where

@@ -4,8 +4,11 @@
 
 mod name_buffer;
 mod name_tallies;
+mod table;
+mod tallies;
 mod tally;
+#[cfg(test)]
+mod tests;
 
 pub use claim_spec::{Claim, ClaimKey};
-pub use name_tallies::NameTallies;
-pub use tally::Tally;
+pub use table::Claims;

@@ -1,5 +1,8 @@
-ghost use Rattle.std.specs.Prelude.{◌≡◌, ◌≤◌, ◌-◌, OnOk, OnErr, IsSome, length, vec_len};
+ghost use Rattle.std.specs.Prelude.{◌≡◌, ◌≤◌, ◌<◌, ◌+◌, ◌-◌, ◌^◌, ℕ, List, OnOk, OnErr, IsSome, length, vec_len, if◌then◌else◌};
 ghost use Rattle.std.specs.FinMap as fin;
+ghost use Rattle.std.specs.Str.{bytes_eq};
+ghost use Rattle.claims.specs.TallyWords.{no_tally, one_tally, plus, less};
+ghost use Rattle.claims.specs.Tallies.{tally_in};
 
 use crate::name_buffer::NameBuffer;
 use crate::tally::Tally;
@@ -63,15 +66,54 @@ impl NameTallies {
         Ok(())
     }
 
-    /// The tally of a name.
-    pub fn get(&self, name: &str) -> Option<Tally>
+    /// The tally of a name, which has no claims where there is none.
+    pub fn tally(&self, name: &str) -> Tally
+        ensures { result ≡ tally_in self.now.map name.now }
+    {
+        self.get(name).unwrap_or(Tally::NONE)
+    }
+
+    /// The tally of a name, where there is one.
+    fn get(&self, name: &str) -> Option<Tally>
         ensures { result ≡ fin.get self.now.map name.now }
     {
         self.inner.get(name).copied()
     }
 
+    /// One more claim on a name. A name that has no tally is put into the spare.
+    pub fn add(&mut self, name: &str, exclusive: bool)
+        requires spare { 1 ≤ self.old.spare }
+        requires fits { length name.now ≤ 1024 }
+        requires claims { (tally_in self.old.map name.now).claims < 2 ^ 63 }
+        requires exclusive { (tally_in self.old.map name.now).exclusive < 2 ^ 63 }
+        ensures tallies { (q : List ℕ) → tally_in self.new.map q ≡ plus (tally_in self.old.map q) (if bytes_eq q name.now then one_tally exclusive else no_tally) }
+        ensures spare { self.old.spare ≤ self.new.spare + 1 }
+    {
+        let Some(tally) = self.get(name) else {
+            self.put(name, Tally::NONE.with(exclusive));
+            return;
+        };
+        self.write(name, tally.with(exclusive));
+    }
+
+    /// One claim less on a name. A name that has none left is taken away.
+    pub fn take_away(&mut self, name: &str, exclusive: bool)
+        ensures tallies { (q : List ℕ) → tally_in self.new.map q ≡ less (tally_in self.old.map q) (if bytes_eq q name.now then one_tally exclusive else no_tally) }
+        ensures spare { self.new.spare ≡ self.old.spare }
+    {
+        let Some(tally) = self.get(name) else {
+            return;
+        };
+        let rest = tally.without(exclusive);
+        if rest.is_none() {
+            self.remove(name);
+            return;
+        }
+        self.write(name, rest);
+    }
+
     /// Puts a tally under a name, into the spare: no memory is asked for.
-    pub fn put(&mut self, name: &str, tally: Tally)
+    fn put(&mut self, name: &str, tally: Tally)
         requires spare { 1 ≤ self.old.spare }
         requires fits { length name.now ≤ 1024 }
         ensures map { self.new.map ≡ fin.insert self.old.map name.now tally }
@@ -83,7 +125,7 @@ impl NameTallies {
     }
 
     /// Writes another tally under a name that has one: no spare is used.
-    pub fn write(&mut self, name: &str, tally: Tally)
+    fn write(&mut self, name: &str, tally: Tally)
         requires { IsSome (fin.get self.old.map name.now) }
         ensures map { self.new.map ≡ fin.insert self.old.map name.now tally }
         ensures spare { self.new.spare ≡ self.old.spare }
@@ -93,7 +135,7 @@ impl NameTallies {
     }
 
     /// Takes a name away.
-    pub fn remove(&mut self, name: &str)
+    fn remove(&mut self, name: &str)
         ensures map { self.new.map ≡ fin.remove self.old.map name.now }
         ensures spare { self.new.spare ≡ self.old.spare }
     {
