@@ -1,5 +1,5 @@
 -- A value written at the place of a name, seen as an insertion into the finite map.
-use Rattle.std.proofs.Common.{◌≡◌, ℕ, ◌<◌, Bool, true, false, List, map, length, get_or, slice_get, position, Option, Some, None, sym, ap, subst, ◌∙◌, ◌⊎◌, inl, inr, String, string_bytes, nat_lt, arith}
+use Rattle.std.proofs.Common.{◌≡◌, ℕ, ◌<◌, Bool, true, List, map, length, slice_get, position, Some, sym, ap, subst, ◌∙◌, inl, inr, String, string_bytes, nat_lt, arith}
 use Rattle.std.proofs.lemmas.List.Quantifiers.{position-Some}
 use Rattle.std.proofs.lemmas.Map.Text.{hash_map_updates_text}
 use Rattle.std.proofs.lemmas.List.{length-map, get_or-map}

@@ -22,16 +22,6 @@ module _ {K : Type 0} {R : K → K → Ordering} (same : K → K → Bool) (deci
       by true e = ap (λ b. unwrap_or (cond b o (fin.get m q)) no_tally) e ∙ is ∙ ap (λ x. op (tally_in m x) u) (sym ((decides q k).0 e)) ∙ ap (λ b. op (tally_in m q) (cond b u no_tally)) (sym e)
       by false e = ap (λ b. unwrap_or (cond b o (fin.get m q)) no_tally) e ∙ sym (op_none (tally_in m q)) ∙ ap (λ b. op (tally_in m q) (cond b u no_tally)) (sym e)
 
-  -- nothing stands under k, and a change of nothing is nothing
-  pub unchanged : op no_tally u ≡ no_tally → fin.get m k ≡ None → (q : K) → tally_in m q ≡ op (tally_in m q) (cond (same q k) u no_tally)
-  unchanged nothing none q = by (same q k) refl
-    where
-      by : (b : Bool) → same q k ≡ b → tally_in m q ≡ op (tally_in m q) (cond (same q k) u no_tally)
-      by true e =
-          let empty : tally_in m q ≡ no_tally = ap (tally_in m) ((decides q k).0 e) ∙ ap (λ o. unwrap_or o no_tally) none in
-          empty ∙ sym nothing ∙ ap (λ t. op t u) (sym empty) ∙ ap (λ b. op (tally_in m q) (cond b u no_tally)) (sym e)
-      by false e = sym (op_none (tally_in m q)) ∙ ap (λ b. op (tally_in m q) (cond b u no_tally)) (sym e)
-
 module _ (op : Tally → Tally → Tally) (op_none : (t : Tally) → op t no_tally ≡ t) where
   pub tally_in-insert_number : (m : fin.FinMap nat_cmp Tally) (k : ℕ) (u t : Tally) → t ≡ op (tally_in m k) u → (q : ℕ) → tally_in (fin.insert m k t) q ≡ op (tally_in m q) (cond (nat_eq q k) u no_tally)
   tally_in-insert_number m k u t is q = ap (λ o. unwrap_or o no_tally) (get-insert_number m k t q) ∙ changed nat_eq Decides-eqb op op_none m k u (Some t) is q

@@ -1,13 +1,12 @@
 -- Sums and differences of tallies.
-use Rattle.std.proofs.Common.{◌≡◌, ℕ, suc, ◌+◌, ◌-◌, ◌<◌, ◌≤◌, Bool, true, false, cond, ◌||◌, nat_lt, List, [], ◌∷◌, ◌++◌, length, take, get_or, count_by, refl, sym, ap, ◌∙◌, arith}
+use Rattle.std.proofs.Common.{◌≡◌, ℕ, suc, ◌+◌, ◌<◌, ◌≤◌, Bool, true, false, cond, List, [], ◌∷◌, ◌++◌, length, take, get_or, count_by, sym, ap, ◌∙◌, arith}
 use Rattle.std.proofs.lemmas.List.{take_more}
 use Rattle.std.proofs.lemmas.List.Sums.{sum_by_push}
-use Rattle.std.proofs.lemmas.Bool.Decides.{nat_tests}
 use Rattle.claim_spec.specs.declared.claim.Claim.{Claim}
 use Rattle.claim_spec.specs.declared.claim.ClaimKey.{ClaimKey}
 use Rattle.claim_spec.specs.Conflicts.{same_key}
 use Rattle.claims.specs.declared.tally.Tally.{Tally}
-use Rattle.claims.specs.TallyWords.{no_tally, one_tally, plus, less, tally_conflict}
+use Rattle.claims.specs.TallyWords.{no_tally, one_tally, plus, less}
 use Rattle.claims.specs.Tallies.{tally_by, tally_of, tally_of_all, size_of_all}
 
 -- two tallies with the same parts
@@ -19,9 +18,6 @@ plus-none t = same_tally (plus t no_tally) t (omega arith) (omega arith)
 
 pub less-none : (t : Tally) → less t no_tally ≡ t
 less-none t = same_tally (less t no_tally) t (omega arith) (omega arith)
-
-pub none-less : (u : Tally) → less no_tally u ≡ no_tally
-none-less u = same_tally (less no_tally u) no_tally (omega arith) (omega arith)
 
 pub none-plus : (u : Tally) → plus no_tally u ≡ u
 none-plus u = same_tally (plus no_tally u) u (omega arith) (omega arith)

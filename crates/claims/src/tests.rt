@@ -1,25 +1,10 @@
-ghost use Rattle.std.specs.Prelude.{◌≡◌, ◌<◌, ◌≤◌, ◌+◌, ◌^◌, [], ◌∷◌, length, All, IfOk, IfSome, OnOk, IsSome};
-ghost use Rattle.std.specs.FinMap as fin;
-ghost use Rattle.claims.specs.HeldClaims.{Fits};
+ghost use Rattle.std.specs.Prelude.{◌≡◌, ◌<◌, ◌≤◌, ◌+◌, ◌*◌, ◌^◌, [], ◌∷◌, length, IfOk};
 
 use crate::{Claim, ClaimKey, Claims};
 use io_ports::{NoMemory, Row, Text};
 use std::alloc::Global;
+use std::process::Abort;
 use std::test::Fail;
-
-/// A claim on a node, alone.
-fn node(alloc: Global, number: u64, exclusive: bool) -> Result<Row<Claim>, NoMemory>
-    ensures { IfOk result (λ row. row.items ≡ (record { key = ClaimKey.Node number; exclusive = exclusive }) ∷ []) }
-{
-    one(alloc, ClaimKey::Node(number), exclusive)
-}
-
-/// A claim on a name, alone.
-fn name(alloc: Global, text: &str, exclusive: bool) -> Result<Row<Claim>, NoMemory>
-    ensures { IfOk result (λ row. row.items ≡ (record { key = ClaimKey.Name text.now; exclusive = exclusive }) ∷ []) }
-{
-    one(alloc, ClaimKey::Name(Text::of(alloc, text)?), exclusive)
-}
 
 /// A row with one claim.
 fn one(alloc: Global, key: ClaimKey, exclusive: bool) -> Result<Row<Claim>, NoMemory>
@@ -31,19 +16,67 @@ fn one(alloc: Global, key: ClaimKey, exclusive: bool) -> Result<Row<Claim>, NoMe
     Ok(row)
 }
 
-/// Makes room and tries.
-fn attempt(table: &mut Claims, wanted: Row<Claim>) -> Result<Option<u64>, NoMemory>
-    requires few { length wanted.items ≤ 2 }
-    requires fits { All (λ claim. Fits claim.key) wanted.items }
-    requires next { table.old.next < 2 ^ 61 }
-    ensures next { table.new.next ≤ table.old.next + 3 }
-    ensures held { IfOk result (λ number. IfSome number (λ n. IsSome (fin.get table.new.held n))) }
+/// Claims a node alone. Whether that was granted.
+fn try_node(
+    alloc: Global,
+    table: &mut Claims,
+    number: u64,
+    exclusive: bool,
+) -> Result<bool, NoMemory>
+    requires { table.old.next < 2 ^ 61 }
+    ensures { table.new.next ≤ table.old.next + 2 }
 {
-    table.reserve(2)?;
-    match table.try_claim(wanted) {
-        Ok(number) => Ok(Some(number)),
-        Err(_) => Ok(None),
+    table.reserve(1)?;
+    let wanted = one(alloc, ClaimKey::Node(number), exclusive)?;
+    Ok(table.try_claim(wanted).is_ok())
+}
+
+/// Claims a name alone. Whether that was granted.
+fn try_name(
+    alloc: Global,
+    table: &mut Claims,
+    text: &str,
+    exclusive: bool,
+) -> Result<bool, NoMemory>
+    requires short { length text.now ≤ 1024 }
+    requires next { table.old.next < 2 ^ 61 }
+    ensures { table.new.next ≤ table.old.next + 2 }
+{
+    table.reserve(1)?;
+    let name = Text::of(alloc, text)?;
+    let wanted = one(alloc, ClaimKey::Name(name), exclusive)?;
+    Ok(table.try_claim(wanted).is_ok())
+}
+
+/// Claims a name alone, and drops it. Whether it was granted.
+fn pass_name(
+    alloc: Global,
+    table: &mut Claims,
+    text: &str,
+    exclusive: bool,
+) -> Result<bool, NoMemory>
+    requires short { length text.now ≤ 1024 }
+    requires next { table.old.next < 2 ^ 61 }
+    ensures { table.new.next ≤ table.old.next + 2 }
+{
+    table.reserve(1)?;
+    let name = Text::of(alloc, text)?;
+    let wanted = one(alloc, ClaimKey::Name(name), exclusive)?;
+    let Ok(number) = table.try_claim(wanted) else {
+        return Ok(false);
+    };
+    table.drop_claim(number);
+    Ok(true)
+}
+
+/// Whether one node may be claimed twice.
+fn both(alloc: Global, table: &mut Claims, first: bool, second: bool) -> Result<bool, NoMemory>
+    requires { table.old.next < 100 }
+{
+    if !try_node(alloc, table, 7, first)? {
+        return Ok(false);
     }
+    try_node(alloc, table, 7, second)
 }
 
 #[test]
@@ -55,8 +88,74 @@ fn claims_on_one_node_conflict_where_either_is_exclusive(rt: HostRuntime) -> Res
         (true, true, false),
     ] {
         let mut table = Claims::new(rt.alloc());
-        assert!(rt; attempt(&mut table, node(rt.alloc(), 7, first)?)?.is_some());
-        assert_eq!(rt; attempt(&mut table, node(rt.alloc(), 7, second)?)?.is_some(), free);
+        assert_eq!(rt; both(rt.alloc(), &mut table, first, second)?, free);
     }
     Ok(())
+}
+
+/// Claims a node and names that look like it.
+fn names_and_nodes(rt: &impl Abort, alloc: Global, table: &mut Claims) -> Result<(), NoMemory>
+    requires { table.old.next < 100 }
+{
+    assert!(rt; try_node(alloc, table, 7, true)?);
+    assert!(rt; try_name(alloc, table, "7", true)?);
+    assert!(rt; try_name(alloc, table, "7/", true)?);
+    assert!(rt; !try_name(alloc, table, "7", false)?);
+    Ok(())
+}
+
+#[test]
+fn a_name_is_no_node_and_no_other_name(rt: HostRuntime) -> Result<(), Fail> {
+    let mut table = Claims::new(rt.alloc());
+    names_and_nodes(&rt, rt.alloc(), &mut table)?;
+    Ok(())
+}
+
+/// Claims a name over and over, dropping it between.
+fn names_in_turn(rt: &impl Abort, alloc: Global, table: &mut Claims) -> Result<(), NoMemory>
+    requires { table.old.next < 100 }
+{
+    assert!(rt; pass_name(alloc, table, "d/", true)?);
+    assert!(rt; try_name(alloc, table, "d/", false)?);
+    assert!(rt; pass_name(alloc, table, "d/", false)?);
+    assert!(rt; !try_name(alloc, table, "d/", true)?);
+    Ok(())
+}
+
+#[test]
+fn what_was_dropped_may_be_claimed_again(rt: HostRuntime) -> Result<(), Fail> {
+    let mut table = Claims::new(rt.alloc());
+    names_in_turn(&rt, rt.alloc(), &mut table)?;
+    Ok(())
+}
+
+/// Claims so many nodes, one by one. How many were granted.
+fn hold_many(alloc: Global, table: &mut Claims, count: u64) -> Result<u64, NoMemory>
+    requires count { count ≤ 1000 }
+    requires next { table.old.next ≡ 0 }
+    ensures { table.new.next ≤ 2 * count }
+{
+    let mut held = 0;
+    for number in 0..count {
+        if try_node(alloc, table, number, true)? {
+            held += 1;
+        }
+    }
+    Ok(held)
+}
+
+#[test]
+fn a_thousand_calls_hold_their_own(rt: HostRuntime) -> Result<(), Fail> {
+    let mut table = Claims::new(rt.alloc());
+    assert_eq!(rt; hold_many(rt.alloc(), &mut table, 1000)?, 1000);
+    assert!(rt; !try_node(rt.alloc(), &mut table, 500, false)?);
+    Ok(())
+}
+
+/// Takes what may go to another thread.
+fn hand_over<T: Send + Drop>(_value: T) {}
+
+#[test]
+fn the_table_goes_to_another_thread(rt: HostRuntime) {
+    hand_over(Claims::new(rt.alloc()));
 }

@@ -1,4 +1,4 @@
-use Rattle.std.proofs.Common.{◌≡◌, string_bytes, is_some, sym, ap, ◌∙◌}
+use Rattle.std.proofs.Common.{is_some, sym, ap, ◌∙◌}
 use Rattle.std.specs.FinMap as fin
 use Rattle.spare_maps.proofs.Views.{get-names}
 use Rattle.claims.proofs.NameWrites.{names-set}

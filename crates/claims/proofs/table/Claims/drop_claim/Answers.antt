@@ -1,5 +1,4 @@
-use Rattle.std.proofs.Common.{◌≡◌, Some, ap, sym, ◌∙◌}
-use Rattle.std.specs.FinMap as fin
+use Rattle.std.proofs.Common.{ap, sym, ◌∙◌}
 use Rattle.claims.specs.TallyWords.{less}
 use Rattle.claims.specs.Tallies.{tally_at, tally_of}
 use Rattle.claims.proofs.TableLaws.{IsTallied-remove}

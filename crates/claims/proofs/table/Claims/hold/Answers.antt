@@ -1,8 +1,7 @@
-use Rattle.std.proofs.Common.{◌≡◌, ◌+◌, ◌<◌, ◌^◌, length, false, ap, sym, ◌∙◌, arith}
+use Rattle.std.proofs.Common.{◌+◌, length, ap, ◌∙◌, arith}
 use Rattle.std.specs.FinMap as fin
 use Rattle.std.specs.List.{list_any}
 use Rattle.claim_spec.specs.Conflicts.{any_conflict}
-use Rattle.claims.specs.TalliedTable.{IsTallied}
 use Rattle.claims.specs.Tallies.{tally_of}
 use Rattle.claims.specs.TallyWords.{plus}
 use Rattle.claims.specs.Tallies.{tally_at}
@@ -12,13 +11,27 @@ use Rattle.claims.proofs.table.Claims.hold.Goals as goal
 
 pub add_all-requires-clause-claims : goal.add_all-requires-clause-claims
 add_all-requires-clause-claims c = λ key.
-    omega (arith, ap (λ t. t.claims) (c.self.invariant.tallies key), all_claims_within key (fin.values c.self.inside.calls.map), c.self.invariant.size, c.requires.room.numbers, ap (λ t. t.next) c.self.view_is,
-    ap length c.as_slice.ensures.items)
+    omega (
+      arith,
+      ap (λ t. t.claims) (c.self.invariant.tallies key),
+      all_claims_within key (fin.values c.self.inside.calls.map),
+      c.self.invariant.size,
+      c.requires.room.numbers,
+      ap (λ t. t.next) c.self.view_is,
+      ap length c.as_slice.ensures.items,
+    )
 
 pub add_all-requires-clause-exclusive : goal.add_all-requires-clause-exclusive
 add_all-requires-clause-exclusive c = λ key.
-    omega (arith, ap (λ t. t.exclusive) (c.self.invariant.tallies key), all_exclusive_within key (fin.values c.self.inside.calls.map), c.self.invariant.size, c.requires.room.numbers, ap (λ t. t.next) c.self.view_is,
-    ap length c.as_slice.ensures.items)
+    omega (
+      arith,
+      ap (λ t. t.exclusive) (c.self.invariant.tallies key),
+      all_exclusive_within key (fin.values c.self.inside.calls.map),
+      c.self.invariant.size,
+      c.requires.room.numbers,
+      ap (λ t. t.next) c.self.view_is,
+      ap length c.as_slice.ensures.items,
+    )
 
 pub invariant_of-self : goal.invariant_of-self
 invariant_of-self c =

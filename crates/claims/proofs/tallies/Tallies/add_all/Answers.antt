@@ -1,4 +1,4 @@
-use Rattle.std.proofs.Common.{◌+◌, ◌≤◌, length, take, ap, ◌∙◌, sym, arith}
+use Rattle.std.proofs.Common.{take, ap, ◌∙◌, sym, arith}
 use Rattle.std.proofs.lemmas.List.{length-take}
 use Rattle.claims.specs.HeldClaims.{is_named}
 use Rattle.claims.specs.TallyWords.{plus}
@@ -8,13 +8,23 @@ use Rattle.claims.proofs.tallies.Tallies.add_all.Goals as goal
 
 pub add-requires-clause-claims : goal.add-requires-clause-claims
 add-requires-clause-claims c =
-    omega (arith, ap (λ t. t.claims) (c.loop-claim.invariant.0 c.claim-item.result.key), claims_within c.claim-item.result.key (take c.loop-claim.claim-index c.args.wanted.now),
-    length-take c.loop-claim.claim-index c.args.wanted.now, c.requires.claims c.claim-item.result.key)
+    omega (
+      arith,
+      ap (λ t. t.claims) (c.loop-claim.invariant.0 c.claim-item.result.key),
+      claims_within c.claim-item.result.key (take c.loop-claim.claim-index c.args.wanted.now),
+      length-take c.loop-claim.claim-index c.args.wanted.now,
+      c.requires.claims c.claim-item.result.key,
+    )
 
 pub add-requires-clause-exclusive : goal.add-requires-clause-exclusive
 add-requires-clause-exclusive c =
-    omega (arith, ap (λ t. t.exclusive) (c.loop-claim.invariant.0 c.claim-item.result.key), exclusive_within c.claim-item.result.key (take c.loop-claim.claim-index c.args.wanted.now),
-    length-take c.loop-claim.claim-index c.args.wanted.now, c.requires.exclusive c.claim-item.result.key)
+    omega (
+      arith,
+      ap (λ t. t.exclusive) (c.loop-claim.invariant.0 c.claim-item.result.key),
+      exclusive_within c.claim-item.result.key (take c.loop-claim.claim-index c.args.wanted.now),
+      length-take c.loop-claim.claim-index c.args.wanted.now,
+      c.requires.exclusive c.claim-item.result.key,
+    )
 
 -- what was tallied before the loop, with the claims so far and then with the next one
 pub loop-claim-preserved : goal.loop-claim-preserved
