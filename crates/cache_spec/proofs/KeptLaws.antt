@@ -97,9 +97,40 @@ module _ (key : FileKey) where
   content_of-used files = used_cases (λ was now. content_of now key ≡ content_of was key) files refl
       (λ file f. ap (λ b. cond b (Some file.1) (content_of (remove_entry (same_file key) files) key)) f.own ∙ sym f.content)
 
+  pub blocks_in-used : (files : KeptFiles) → blocks_in (used files key) ≡ blocks_in files
+  blocks_in-used files = used_cases (λ was now. blocks_in now ≡ blocks_in was) files refl (λ file f. sym f.blocks)
+
+  -- where it isn't kept nothing changes
+  pub used-absent : (files : KeptFiles) → content_of files key ≡ None → used files key ≡ files
+  used-absent files none = used_cases (λ was now. content_of was key ≡ None → now ≡ was) files (λ _. refl)
+      (λ file f absent. let never : Some file.1 ≡ None = sym f.content ∙ absent in absurd (some_none file.1 never)) none
+    where
+      some_none : (content : List ℕ) → Some content ≡ None → ⊥
+      some_none content same = cc
+
   pub IsCache-used : (capacity : ℕ) (files : KeptFiles) → IsCache capacity files → IsCache capacity (used files key)
   IsCache-used capacity files cache = used_cases (λ was now. IsCache capacity now) files cache
       (λ file f. record { within = omega (arith, f.blocks, cache.within); none_empty = f.others cache.none_empty })
+
+-- ---- how many files there may be
+one_block : (content : List ℕ) → 1 ≤ length content → 1 ≤ blocks_of content
+one_block content some = omega arith
+
+pub length-within : (files : KeptFiles) → NoneEmpty files → length files ≤ blocks_in files
+length-within [] none = omega arith
+length-within (file ∷ files) none = omega (arith, one_block file.1 none.0, length-within files none.1)
+
+-- a kept file fits
+pub blocks_of-within : (files : KeptFiles) (key : FileKey) (content : List ℕ) → content_of files key ≡ Some content → blocks_of content ≤ blocks_in files
+blocks_of-within [] key content e = absurd (nothing e)
+  where
+    nothing : None ≡ Some content → ⊥
+    nothing same = cc
+blocks_of-within (file ∷ files) key content e = by (same_file key file.0) (λ later. blocks_of-within files key content later) e
+  where
+    by : (b : Bool) → (content_of files key ≡ Some content → blocks_of content ≤ blocks_in files) → cond b (Some file.1) (content_of files key) ≡ Some content → blocks_of content ≤ blocks_in (file ∷ files)
+    by true rest here = let same : file.1 ≡ content = cc in omega (arith, ap blocks_of same)
+    by false rest later = omega (arith, rest later)
 
 -- ---- a fill
 -- what was put is found
