@@ -1,6 +1,6 @@
 -- Laws of the list of kept files: its blocks stay within the cache, the file used longest ago goes first, and what was put
 -- is found under its own key alone.
-use Rattle.std.proofs.Common.{◌≡◌, ℕ, suc, ◌+◌, ◌-◌, ◌<◌, ◌≤◌, Bool, true, false, cond, List, [], ◌∷◌, ◌++◌, Option, Some, None, refl, sym, ap, subst, ◌∙◌, is_some, nat_le, length, nat_eq, arith}
+use Rattle.std.proofs.Common.{◌≡◌, ℕ, suc, ◌+◌, ◌-◌, ◌<◌, ◌≤◌, Bool, true, false, cond, ◌&&◌, List, [], ◌∷◌, ◌++◌, Option, Some, None, refl, sym, ap, subst, ◌∙◌, is_some, nat_le, length, nat_eq, arith}
 use Rattle.std.proofs.lemmas.Bool.Decides.{Decides-eqb, nat_tests}
 use Rattle.std.proofs.lemmas.Slice.Eq.{bytes_eq-Decides}
 use Rattle.std.specs.Option.{option_map_or}
@@ -10,7 +10,7 @@ use Rattle.cache_spec.specs.KeptFiles.{KeptFiles, same_file, blocks_of, blocks_i
 
 pub same_file-refl : (key : FileKey) → same_file key key ≡ true
 same_file-refl key =
-    ap (λ t. cond t (nat_eq key.generation key.generation) false) ((bytes_eq-Decides key.name key.name).1 refl) ∙ (Decides-eqb key.generation key.generation).1 refl
+    ap (λ t. t && nat_eq key.generation key.generation) ((bytes_eq-Decides key.name key.name).1 refl) ∙ (Decides-eqb key.generation key.generation).1 refl
 
 -- ---- what stays where room is made
 pub blocks_in-fitting : (room : ℕ) (files : KeptFiles) → blocks_in (fitting room files) ≤ room

@@ -1,8 +1,8 @@
 -- The files that a cache of so many blocks keeps, the one that was used last first, and what a use and a fill make of them.
-use Rattle.std.specs.Prelude.{◌≡◌, ℕ, ◌+◌, ◌-◌, ◌≤◌, ◌/◌, ◌==◌, Bool, false, List, [], ◌∷◌, Option, length, nat_le, is_some, if◌then◌else◌}
+use Rattle.std.specs.Prelude.{◌≡◌, ℕ, ◌+◌, ◌-◌, ◌≤◌, ◌/◌, ◌&&◌, Bool, List, [], ◌∷◌, Option, length, nat_le, nat_eq, is_some, if◌then◌else◌}
+use Rattle.std.specs.Cmp.Lexicographic.{pointwise}
 use Rattle.std.specs.Map.{lookup, lookup_entry, remove_entry}
 use Rattle.std.specs.Option.{option_map_or}
-use Rattle.std.specs.Str.{bytes_eq}
 use Rattle.cache_spec.specs.declared.file_key.FileKey.{FileKey}
 
 -- kept files with their contents, the one that was used last first
@@ -11,7 +11,7 @@ KeptFiles = List (FileKey × List ℕ)
 
 -- one file: the same name and the same generation
 abbrev pub same_file : FileKey → FileKey → Bool
-same_file a b = if bytes_eq a.name b.name then a.generation == b.generation else false
+same_file = λ a b. pointwise nat_eq a.name b.name && nat_eq a.generation b.generation
 
 -- how many blocks of 65,536 bytes a content takes
 abbrev pub blocks_of : List ℕ → ℕ
