@@ -1,0 +1,20 @@
+use Rattle.std.proofs.Common.{◌≡◌, sym, ap, ◌∙◌, unwrap_or}
+use Rattle.claims.specs.TallyWords.{no_tally, one_tally, less}
+use Rattle.claims.specs.Tallies.{tally_in}
+use Rattle.claims.proofs.TallySums.{less-none}
+use Rattle.claims.proofs.TallyMaps.{tally_in-insert_name, tally_in-remove_name}
+use Rattle.claims.proofs.name_tallies.NameTallies.take_away.Goals as goal
+
+pub returns-then-is_none-clause-tallies : goal.returns-then-is_none-clause-tallies
+returns-then-is_none-clause-tallies c = λ q.
+    let there : tally_in c.args.self.now.map c.args.name.now ≡ c.in-Some.tally = ap (λ o. unwrap_or o no_tally) (sym c.get.ensures ∙ c.in-Some.is) in
+    ap (λ m. tally_in m q) c.remove.ensures.map
+    ∙ tally_in-remove_name less less-none c.args.self.now.map c.args.name.now (one_tally c.args.exclusive)
+    (sym (c.is_none.ensures.0 c.if-is_none.true) ∙ c.without-rest.ensures ∙ ap (λ t. less t (one_tally c.args.exclusive)) (sym there)) q
+
+pub returns-clause-tallies : goal.returns-clause-tallies
+returns-clause-tallies c = λ q.
+    let there : tally_in c.args.self.now.map c.args.name.now ≡ c.in-Some.tally = ap (λ o. unwrap_or o no_tally) (sym c.get.ensures ∙ c.in-Some.is) in
+    ap (λ m. tally_in m q) c.write.ensures.map
+    ∙ tally_in-insert_name less less-none c.args.self.now.map c.args.name.now (one_tally c.args.exclusive) c.without-rest.result
+    (c.without-rest.ensures ∙ ap (λ t. less t (one_tally c.args.exclusive)) (sym there)) q
