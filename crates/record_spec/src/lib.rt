@@ -1,0 +1,6 @@
+//! What a mount remembers of the names that it asked the bucket about: the types, the definitions and the laws of the record list.
+#![tactic(auto)]
+
+mod records;
+
+pub use records::{Learned, Record, Shown};
