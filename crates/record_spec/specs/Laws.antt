@@ -1,5 +1,5 @@
 -- The laws of the record list, along everything that happens to it.
-use Rattle.std.specs.Prelude.{◌≡◌, ℕ, ◌≤◌, Bool, List, [], ◌∷◌, length, IfSome}
+use Rattle.std.specs.Prelude.{ℕ, ◌≤◌, Bool, List, [], ◌∷◌, IfSome}
 use Rattle.record_spec.specs.declared.records.Record.{Record}
 use Rattle.record_spec.specs.declared.records.Learned.{Learned}
 use Rattle.record_spec.specs.RecordList.{Key, RecordList, known_to, empty_list}

@@ -1,6 +1,6 @@
 -- What calls that are done have used and written, over keys and moments; and when a record may be used in place of a
 -- further look into the bucket.
-use Rattle.std.specs.Prelude.{◌≡◌, ℕ, ◌≤◌, ◌<◌, ◌+◌, Bool, IsTrue, ◌⊎◌, List, [], ◌∷◌, ◌++◌, length, All, Contains, Some}
+use Rattle.std.specs.Prelude.{◌≡◌, ℕ, ◌≤◌, ◌<◌, ◌+◌, Bool, IsTrue, ◌⊎◌, List, [], ◌++◌, length, All, Contains, Some}
 use Rattle.bucket_api.specs.Listing.{ends_in_slash}
 use Rattle.record_spec.specs.declared.records.Record.{Record}
 use Rattle.record_spec.specs.RecordList.{Key, RecordList, record_of, known_to}
