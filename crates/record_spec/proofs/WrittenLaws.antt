@@ -1,6 +1,7 @@
 -- What an own write reaches: each key that it writes has no record afterwards, and is known to the write's moment.
-use Rattle.std.proofs.Common.{◌≡◌, ℕ, ◌≤◌, max, Bool, true, false, cond, ◌||◌, ◌==◌, List, [], ◌∷◌, ◌++◌, map, fold, Some, None, bytes_eq, refl, sym, ap, subst, ◌∙◌, ◌⊎◌, inl, inr}
+use Rattle.std.proofs.Common.{◌≡◌, ℕ, ◌≤◌, max, Bool, true, false, cond, ◌||◌, ◌==◌, List, [], ◌∷◌, ◌++◌, map, fold, Some, None, bytes_eq, refl, sym, ap, subst, ◌∙◌, ◌⊎◌, inl, inr, append_assoc, append-nil}
 use Rattle.std.proofs.Math.Nat.{le-max_right}
+use Rattle.std.proofs.lemmas.List.{map-append}
 use Rattle.std.proofs.lemmas.List.Folds.{list_any-append}
 use Rattle.std.proofs.lemmas.Slice.Eq.{bytes_eq-Decides}
 use Rattle.std.specs.List.{list_any}
@@ -29,6 +30,20 @@ any-longer byte key (k ∷ keys) e = by (any-longer byte key keys) (bytes_eq key
         → (b : Bool) → bytes_eq key k ≡ b → b || list_any (bytes_eq key) keys ≡ true → list_any (bytes_eq (byte ∷ key)) (map (λ k. byte ∷ k) (k ∷ keys)) ≡ true
     by rest true is e = or_left _ _ ((bytes_eq-Decides (byte ∷ key) (byte ∷ k)).1 (ap (λ t. byte ∷ t) (same_text key k is)))
     by rest false is e = or_right _ _ (rest e)
+
+longer_cut : (byte : ℕ) (key : Key) (b : Bool) → map (λ k. byte ∷ k) (cond b (key ∷ []) []) ≡ cond b ((byte ∷ key) ∷ []) []
+longer_cut byte key true = refl
+longer_cut byte key false = refl
+
+-- the cuts of a text with one more byte: the text itself is one, where the byte is a slash
+pub cuts-push : (name : Key) (byte : ℕ) → cuts (name ++ byte ∷ []) ≡ cuts name ++ cond (byte == 47) ((name ++ byte ∷ []) ∷ []) []
+cuts-push [] byte = append-nil (cond (byte == 47) ((byte ∷ []) ∷ []) [])
+cuts-push (first ∷ name) byte =
+    let head = cond (first == 47) ((first ∷ []) ∷ []) [] in
+    let last = cond (byte == 47) ((name ++ byte ∷ []) ∷ []) [] in
+    ap (λ keys. head ++ map (λ k. first ∷ k) keys) (cuts-push name byte)
+    ∙ ap (λ keys. head ++ keys) (map-append (λ k. first ∷ k) (cuts name) last ∙ ap (λ keys. map (λ k. first ∷ k) (cuts name) ++ keys) (longer_cut first (name ++ byte ∷ []) (byte == 47)))
+    ∙ sym (append_assoc head (map (λ k. first ∷ k) (cuts name)) (cond (byte == 47) ((first ∷ (name ++ byte ∷ [])) ∷ []) []))
 
 -- a directory's key that begins a name is one of its cuts
 cut_of : (key rest : List ℕ) → ends_in_slash key ≡ true → list_any (bytes_eq key) (cuts (key ++ rest)) ≡ true
