@@ -10,7 +10,7 @@ use Rattle.record_spec.specs.declared.records.Learned.TheVariants.{Kept, Behind,
 use Rattle.record_spec.specs.RecordList.{Key, RecordList, empty_list, record_of, known_to, without}
 use Rattle.record_spec.specs.Steps.{live_record, found, gone, is_behind, behind, kept, raised, learned, MayBe, written, written_keys}
 use Rattle.record_spec.specs.Past.{Past, no_past, Writes, IsLawful, KeepsUp}
-use Rattle.record_spec.specs.Laws.{Act, find, saw, used, wrote, list_after, past_after, MayHappen, list_after_all, past_after_all, MayHappenAll, NoneFalls, UsesAreLawful}
+use Rattle.record_spec.specs.Laws.{Act, find, saw, used, wrote, list_after, past_after, MayHappen, list_after_all, past_after_all, MayHappenAll, NoneFalls, FindsLawful, UsesAreLawful}
 use Rattle.record_spec.proofs.KnownLaws.{moment_or, same_text, text_itself, lookup-without_other, moment_or-take, lookup-take, length-without_le, length-without, or_true, live_record_is, found_by, NoneFalls-learned, NoneFalls-written, NoneFalls-found, NoneFalls-refl, NoneFalls-trans, lookup-without_same}
 use Rattle.record_spec.proofs.WrittenLaws.{known_to-written, was-gone, was-all_gone}
 
@@ -192,9 +192,8 @@ IsLawful-live implicit past list key now lifetime r k e = record {
     known : known_to list key ≡ r.moment
     known = ap (λ o. moment_or o list.low) is.0
 
-pub lawful_if_live : (implicit : Bool) (past : Past) (list : RecordList) (key : Key) (now lifetime : ℕ) → KeepsUp implicit past list
-    → IfSome (live_record list key now lifetime) (IsLawful implicit past key now lifetime)
-lawful_if_live implicit past list key now lifetime k = at (live_record list key now lifetime) refl
+pub finds_lawful : (list : RecordList) (key : Key) (now lifetime : ℕ) → FindsLawful list key now lifetime
+finds_lawful list key now lifetime implicit past k = at (live_record list key now lifetime) refl
   where
     at : (o : Option Record) → live_record list key now lifetime ≡ o → IfSome o (IsLawful implicit past key now lifetime)
     at None e = tt
@@ -240,4 +239,4 @@ NoneFalls-after_all implicit past list (act ∷ acts) k may =
 pub uses_are_lawful : UsesAreLawful
 uses_are_lawful implicit capacity acts may =
     let k = KeepsUp-after_all implicit no_past (empty_list capacity) acts (KeepsUp-empty implicit capacity) may in
-    record { keeps_up = k; lawful = λ key now lifetime. lawful_if_live implicit (past_after_all no_past acts) (list_after_all implicit (empty_list capacity) acts) key now lifetime k }
+    record { keeps_up = k; lawful = λ key now lifetime. finds_lawful (list_after_all implicit (empty_list capacity) acts) key now lifetime implicit (past_after_all no_past acts) k }

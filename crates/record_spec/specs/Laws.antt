@@ -49,11 +49,19 @@ MayHappenAll implicit list (act ∷ acts) = MayHappen list act × MayHappenAll i
 abbrev pub NoneFalls : RecordList → RecordList → Type 0
 NoneFalls old new = (key : Key) → known_to old key ≤ known_to new key
 
+-- the list still keeps up once this happened
+abbrev pub StillKeepsUp : Bool → RecordList → Act → RecordList → Type 0
+StillKeepsUp implicit old act new = (past : Past) → KeepsUp implicit past old → KeepsUp implicit (past_after past act) new
+
+-- a record that is found may be used, whatever the past that the list keeps up with
+abbrev pub FindsLawful : RecordList → Key → ℕ → ℕ → Type 0
+FindsLawful list key now lifetime = (implicit : Bool) (past : Past) → KeepsUp implicit past list → IfSome (live_record list key now lifetime) (IsLawful implicit past key now lifetime)
+
 -- along any acts from an empty list on: the list keeps up with the past, and a record that is found may be used
 pub record AreLawful (implicit : Bool) (capacity : ℕ) (acts : List Act) : Type 0 where
   pub keeps_up : KeepsUp implicit (past_after_all no_past acts) (list_after_all implicit (empty_list capacity) acts)
-  pub lawful : (key : Key) (now lifetime : ℕ)
-      → IfSome (live_record (list_after_all implicit (empty_list capacity) acts) key now lifetime) (IsLawful implicit (past_after_all no_past acts) key now lifetime)
+  pub lawful : (key : Key) (now lifetime : ℕ) →
+      IfSome (live_record (list_after_all implicit (empty_list capacity) acts) key now lifetime) (IsLawful implicit (past_after_all no_past acts) key now lifetime)
 
 abbrev pub UsesAreLawful : Type 0
 UsesAreLawful = (implicit : Bool) (capacity : ℕ) (acts : List Act) → MayHappenAll implicit (empty_list capacity) acts → AreLawful implicit capacity acts

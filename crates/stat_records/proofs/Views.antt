@@ -140,8 +140,8 @@ module _ {Y : Type 0} where
   gone-inside es low capacity list key new mark is once taken risen =
       let records : by_bytes new.entries ≡ without key (by_bytes es) = ap (λ c. by_bytes c.entries) taken ∙ by_bytes-remove key es once in
       let low_is : mark ≡ max low (known_to (seen_as es low capacity) key) =
-          risen ∙ lookup-entry key es (λ r. max low r.moment) low ∙ raised_known (lookup (is_text key) es) low
-          ∙ ap (λ o. max low (moment_or o low)) (sym (lookup-by_bytes key es)) in
+      risen ∙ lookup-entry key es (λ r. max low r.moment) low ∙ raised_known (lookup (is_text key) es) low
+      ∙ ap (λ o. max low (moment_or o low)) (sym (lookup-by_bytes key es)) in
       (λ i. record { records = records i; low = low_is i; capacity = ap (λ c. c.cap) taken i }) ∙ ap (λ l. gone l key) is
 
   -- the table once a live record was found
@@ -150,7 +150,7 @@ module _ {Y : Type 0} where
       → seen_as new.entries low new.cap ≡ found list key now lifetime
   found-inside es low capacity list key now lifetime new is once moved live =
       let records : by_bytes new.entries ≡ option_map_or (λ r. (key, r) ∷ without key (by_bytes es)) (lookup (bytes_eq key) (by_bytes es)) (by_bytes es) =
-          ap (λ c. by_bytes c.entries) moved ∙ by_bytes-promoted key es once in
+      ap (λ c. by_bytes c.entries) moved ∙ by_bytes-promoted key es once in
       (λ i. record { records = records i; low = low; capacity = ap (λ c. c.cap) moved i })
       ∙ ap (λ l. fronted l key) is
       ∙ sym (found_is list key now lifetime live)
@@ -212,14 +212,14 @@ module _ {Y : Type 0} where
       let gone_none : lookup (string_eq text) es ≡ None = ap (λ q. lookup (is_text q) es) named ∙ absent in
       let alone : without key (by_bytes es) ≡ by_bytes es = without-absent key es absent in
       let entries : new.entries ≡ (text, r) ∷ take (capacity - 1) es =
-          ap (λ c. c.entries) put ∙ ap (λ o. option_map_or (λ e. (e.0, r) ∷ remove_entry (string_eq text) es) o ((text, r) ∷ take (capacity - 1) es)) missing in
+      ap (λ c. c.entries) put ∙ ap (λ o. option_map_or (λ e. (e.0, r) ∷ remove_entry (string_eq text) es) o ((text, r) ∷ take (capacity - 1) es)) missing in
       let records : by_bytes new.entries ≡ take capacity ((key, r) ∷ without key (by_bytes es)) =
-          ap by_bytes entries ∙ ap (λ k. (k, r) ∷ by_bytes (take (capacity - 1) es)) named ∙ ap (λ t. (key, r) ∷ t) (by_bytes-take (capacity - 1) es)
-          ∙ sym (take-front capacity (key, r) (by_bytes es) room) ∙ ap (λ t. take capacity ((key, r) ∷ t)) (sym alone) in
+      ap by_bytes entries ∙ ap (λ k. (k, r) ∷ by_bytes (take (capacity - 1) es)) named ∙ ap (λ t. (key, r) ∷ t) (by_bytes-take (capacity - 1) es)
+      ∙ sym (take-front capacity (key, r) (by_bytes es) room) ∙ ap (λ t. take capacity ((key, r) ∷ t)) (sym alone) in
       let low_is : mark ≡ option_map_or (λ e. max low e.1.moment) (slice_get ((key, r) ∷ without key (by_bytes es)) capacity) low =
-          risen ∙ ap (λ o. option_map_or (λ (e : String Y × Record). max low e.1.moment) o low) (went ∙ ap (λ o. option_map_or (λ old. Some (text, old)) o (slice_get es (capacity - 1))) gone_none)
-          ∙ moment-at low es (capacity - 1)
-          ∙ ap (λ o. option_map_or (λ (e : Key × Record). max low e.1.moment) o low) (sym (at-front capacity (key, r) (by_bytes es) room) ∙ ap (λ t. slice_get ((key, r) ∷ t) capacity) (sym alone)) in
+      risen ∙ ap (λ o. option_map_or (λ (e : String Y × Record). max low e.1.moment) o low) (went ∙ ap (λ o. option_map_or (λ old. Some (text, old)) o (slice_get es (capacity - 1))) gone_none)
+      ∙ moment-at low es (capacity - 1)
+      ∙ ap (λ o. option_map_or (λ (e : Key × Record). max low e.1.moment) o low) (sym (at-front capacity (key, r) (by_bytes es) room) ∙ ap (λ t. slice_get ((key, r) ∷ t) capacity) (sym alone)) in
       (λ i. record { records = records i; low = low_is i; capacity = ap (λ c. c.cap) put i }) ∙ ap (λ l. kept l key r) is
 
   -- the table once a key that it had got another record
@@ -273,3 +273,7 @@ cut_before list name at within other =
     ∙ ap (λ b. fold gone list (cuts (take at name) ++ cond b ((take at name ++ get_or name at 0 ∷ []) ∷ []) [])) (sym (ne_eqb (get_or name at 0) 47 other))
     ∙ ap (fold gone list) (sym (cuts-push (take at name) (get_or name at 0)))
     ∙ ap (λ k. fold gone list (cuts k)) (sym more)
+
+-- ---- how many there are
+pub few-inside : {Y : Type 0} (es : List (String Y × Record)) (low capacity : ℕ) (list : RecordList) → seen_as es low capacity ≡ list → length es ≤ capacity → length list.records ≤ list.capacity
+few-inside es low capacity list is few = subst (λ (l : RecordList). length l.records ≤ l.capacity) is (omega (arith, length_by_bytes es))

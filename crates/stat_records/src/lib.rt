@@ -2,6 +2,9 @@
 #![tactic(auto)]
 
 mod stat_records;
+mod steps;
+#[cfg(test)]
+mod tests;
 
 pub use record_spec::{Learned, Shown};
 pub use stat_records::StatRecords;

@@ -1,14 +1,13 @@
-ghost use Rattle.std.specs.Prelude.{◌≡◌, ◌≤◌, ◌↔◌, ◌∷◌, IsTrue, IsSome, if◌then◌else◌, IfOk, OnOk, is_some, length, max, take, fold};
+ghost use Rattle.std.specs.Prelude.{◌≡◌, ◌≤◌, ◌↔◌, IsTrue, IfOk, OnOk, Bool, length};
 ghost use Rattle.std.specs.Borrow.{sem};
-ghost use Rattle.std.specs.Option.{option_map_or};
-ghost use Rattle.record_spec.specs.RecordList.{Key, empty_list, record_of, known_to};
-ghost use Rattle.record_spec.specs.Steps.{live_record, found, gone, is_behind, behind, kept, raised, learned, MayBe, cuts, written};
-ghost use Rattle.record_spec.specs.Steps.{is_live as lives};
-ghost use Rattle.record_spec.specs.Past.{Past, KeepsUp, IsLawful, Writes};
-ghost use Rattle.record_spec.specs.Laws.{NoneFalls, UsesAreLawful};
+ghost use Rattle.record_spec.specs.RecordList.{Key, empty_list, record_of};
+ghost use Rattle.record_spec.specs.Steps.{live_record, found, is_behind, learned, MayBe, written};
+ghost use Rattle.record_spec.specs.Past.{Writes};
+ghost use Rattle.record_spec.specs.Laws.{NoneFalls, FindsLawful, StillKeepsUp, UsesAreLawful, saw, wrote};
 ghost use Rattle.stat_records.specs.Ending.{EndsAs};
 ghost use Rattle.stat_records.specs.Told.{told, told_of};
 
+use crate::steps::is_live;
 use io_ports::{NoMemory, Text};
 use lru::LruCache;
 use record_spec::{Learned, Record, Shown};
@@ -21,9 +20,9 @@ use std::num::NonZeroUsize;
 /// lifetimes are seconds. Contracts see the records, the most recently used first, the watermark, and the capacity.
 #[derive(Drop)]
 pub struct StatRecords {
-    inner: LruCache<String, Record>,
-    low: u64,
-    alloc: Global,
+    pub(crate) inner: LruCache<String, Record>,
+    pub(crate) low: u64,
+    pub(crate) alloc: Global,
 }
 
 impl Model for StatRecords {
@@ -59,6 +58,7 @@ impl StatRecords {
     pub fn find(&mut self, key: &str, now: u64, lifetime: u64) -> Option<(u64, &Shown)>
         ensures* promotes { sem 𝓛 (EndsAs self.entry (found self.old key.now now lifetime)) }
         ensures shown { told result ≡ told_of (live_record self.old key.now now lifetime) }
+        ensures lawful { FindsLawful self.old key.now now lifetime }
     {
         let _ = self.inner.len();
         if !self.has_live(key, now, lifetime) {
@@ -71,6 +71,7 @@ impl StatRecords {
     /// What `find` would answer. Nothing changes.
     pub fn peek(&self, key: &str, now: u64, lifetime: u64) -> Option<(u64, &Shown)>
         ensures shown { told result ≡ told_of (live_record self.now key.now now lifetime) }
+        ensures lawful { FindsLawful self.now key.now now lifetime }
         ensures few { length self.now.records ≤ self.now.capacity }
     {
         let _ = self.inner.len();
@@ -83,13 +84,6 @@ impl StatRecords {
         Some((record.moment, &record.shown))
     }
 
-    /// Whether `find` would find a record.
-    fn has_live(&self, key: &str, now: u64, lifetime: u64) -> bool
-        ensures { result ≡ is_some (live_record self.now key.now now lifetime) }
-    {
-        self.peek(key, now, lifetime).is_some()
-    }
-
     /// Learns what the bucket showed of a key at a moment, to a call that was taken at a tick. An observation that is
     /// older than the key's record, or below the watermark, is `Behind` and isn't kept; where it is newer than the key's
     /// record, that record goes. Any other comes to the front in the place of the key's record, and past the capacity
@@ -100,22 +94,18 @@ impl StatRecords {
         ensures no_memory { result ≡ Learned.NoMemory → record_of self.old key.now ≡ None }
         ensures came { MayBe self.old key.now moment result }
         ensures records { self.new ≡ learned self.old key.now (record { moment = moment; tick = tick; shown = shown }) result }
+
+        // Of no key less is known than before, and the list still keeps up with what calls that are done have seen.
+        ensures rises { NoneFalls self.old self.new }
+        ensures keeps_up { (implicit : Bool) → StillKeepsUp implicit self.old (saw key.now (record { moment = moment; tick = tick; shown = shown }) result) self.new }
     {
-        let name = key.as_str();
+        let _ = self.inner.len();
         let observed = Record {
             moment,
             tick,
             shown,
         };
-        if self.is_behind(name, moment) {
-            self.pass(name, moment);
-            return Learned::Behind;
-        }
-        if self.inner.contains(name) {
-            self.replace(name, observed);
-            return Learned::Kept;
-        }
-        if self.add(name, observed) { Learned::Kept } else { Learned::NoMemory }
+        self.observe(key.as_str(), observed)
     }
 
     /// The call that wrote this name at a moment is done: the name's record goes, and with `implicit` also that of each
@@ -123,11 +113,14 @@ impl StatRecords {
     /// one for each of its slashes.
     pub fn own_write(&mut self, name: &str, moment: u64, implicit: bool)
         ensures records { self.new ≡ written self.old name.now moment implicit }
+        ensures gone { (key : Key) → Writes implicit name.now key → record_of self.new key ≡ None }
+        ensures kept { (key : Key) → ¬ Writes implicit name.now key → record_of self.new key ≡ record_of self.old key }
+
+        // Of no key less is known than before, and the list still keeps up with what calls that are done have written.
+        ensures rises { NoneFalls self.old self.new }
+        ensures keeps_up { StillKeepsUp implicit self.old (wrote name.now moment) self.new }
     {
-        self.go(name);
-        if implicit {
-            self.go_above(name);
-        }
+        self.go_with(name, implicit);
         self.raise(moment);
     }
 
@@ -137,106 +130,5 @@ impl StatRecords {
         ensures { result ≡ self.now.low }
     {
         self.low
-    }
-
-    /// Whether an observation is below the watermark, or older than its key's record.
-    fn is_behind(&self, key: &str, moment: u64) -> bool
-        ensures { result ≡ is_behind self.now key.now moment }
-    {
-        moment < self.low || moment < self.known_to(key)
-    }
-
-    /// The moment of a key's record, and the watermark where it has none.
-    fn known_to(&self, key: &str) -> u64
-        ensures { result ≡ known_to self.now key.now }
-    {
-        match self.inner.peek(key) {
-            Some(record) => record.moment,
-            None => self.low,
-        }
-    }
-
-    /// The watermark rises to a moment.
-    fn raise(&mut self, moment: u64)
-        ensures { self.new ≡ raised self.old moment }
-    {
-        self.low = self.low.max(moment);
-    }
-
-    /// The record of a key goes, where it has one.
-    fn go(&mut self, key: &str)
-        ensures { self.new ≡ gone self.old key.now }
-    {
-        let _ = self.inner.len();
-        let out = self.inner.pop_entry(key);
-        self.low = raised_by(self.low, out);
-    }
-
-    /// The records of all directories' keys that begin a name go.
-    fn go_above(&mut self, name: &str)
-        ensures { self.new ≡ fold gone self.old (cuts name.now) }
-    {
-        for (at, byte) in name.as_bytes().iter().enumerate() {
-            if *byte == b'/' {
-                let (directory, _) = name.split_at(at + 1);
-                self.go(directory);
-            }
-        }
-    }
-
-    /// The record of a key goes, where it is older than an observation that isn't kept.
-    fn pass(&mut self, key: &str, moment: u64)
-        ensures { self.new ≡ behind self.old key.now moment }
-    {
-        if self.known_to(key) < moment {
-            self.go(key);
-        }
-    }
-
-    /// A key that has a record gets another: no memory is asked for.
-    fn replace(&mut self, key: &str, observed: Record)
-        requires { IsSome (record_of self.old key.now) }
-        ensures { self.new ≡ kept self.old key.now observed }
-    {
-        let _ = self.inner.len();
-        let slot = self.inner.get_mut(key).unwrap();
-        *slot = observed;
-    }
-
-    /// A key that has no record gets one, and past the capacity the last record goes. Where memory for it is refused
-    /// the watermark rises to its moment.
-    fn add(&mut self, key: &str, observed: Record) -> bool
-        requires { record_of self.old key.now ≡ None }
-        ensures { self.new ≡ (if result then kept self.old key.now observed else raised self.old observed.moment) }
-    {
-        let _ = self.inner.len();
-        let moment = observed.moment;
-        let Ok(key) = String::from_str(self.alloc, key) else {
-            self.raise(moment);
-            return false;
-        };
-        let Ok(out) = self.inner.push(key, observed) else {
-            self.raise(moment);
-            return false;
-        };
-        self.low = raised_by(self.low, out);
-        true
-    }
-}
-
-/// Whether a record's tick and the lifetime lie after `now`. Their sum is not taken, so nothing wraps.
-fn is_live(record: &Record, now: u64, lifetime: u64) -> bool
-    ensures { result ≡ lives now lifetime record.now }
-{
-    record.tick > now || now - record.tick < lifetime
-}
-
-/// The watermark, once a record that went has left its moment to it.
-fn raised_by(low: u64, out: Option<(String, Record)>) -> u64
-    ensures { result ≡ option_map_or (λ entry. max low entry.1.moment) out low }
-{
-    match out {
-        Some((_, record)) => low.max(record.moment),
-        None => low,
     }
 }

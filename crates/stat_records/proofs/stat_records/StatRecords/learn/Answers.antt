@@ -1,31 +1,27 @@
-use Rattle.std.proofs.Common.{◌≡◌, None, is_some, sym, ap, subst, ◌∙◌}
-use Rattle.record_spec.specs.RecordList.{record_of}
-use Rattle.record_spec.specs.Steps.{is_behind}
-use Rattle.stat_records.proofs.Views.{record_of-inside, none_if}
+use Rattle.std.proofs.Common.{◌≡◌, ◌≤◌, ◌∷◌, length, sym, ap, subst, ◌∙◌, arith}
+use Rattle.record_spec.specs.declared.records.Record.{Record}
+use Rattle.record_spec.specs.RecordList.{known_to}
+use Rattle.record_spec.specs.Steps.{learned, MayBe}
+use Rattle.record_spec.specs.Past.{Past, KeepsUp}
+use Rattle.record_spec.proofs.KnownLaws.{NoneFalls-learned}
+use Rattle.record_spec.proofs.UseLaws.{KeepsUp-learned}
+use Rattle.stat_records.proofs.Views.{few-inside}
 use Rattle.stat_records.proofs.stat_records.StatRecords.learn.Goals as goal
 
--- the table has the key exactly where the key has a record
-pub replace-requires : goal.replace-requires
-replace-requires c =
-    ap is_some (record_of-inside c.self.inside.inner.entries c.self.inside.low c.self.inside.inner.cap c.args.self.now c.as_str-name.result.now c.self.view_is)
-    ∙ sym c.contains.ensures ∙ c.if-contains.true
+-- each law of learning, of the list that is left
+pub returns-clause-rises : goal.returns-clause-rises
+returns-clause-rises c = λ key.
+    let observed : Record = record { moment = c.args.moment; tick = c.args.tick; shown = c.args.shown } in
+    subst (λ l. known_to c.args.self.now key ≤ known_to l key)
+    (sym (c.observe.ensures.records ∙ ap (λ q. learned c.args.self.now q observed c.observe.result) c.as_str.ensures.bytes))
+    (NoneFalls-learned c.args.self.now c.args.key.now observed c.observe.result
+    (few-inside c.self.inside.inner.entries c.self.inside.low c.self.inside.inner.cap c.args.self.now c.self.view_is c.len.ensures.valid.1)
+    (subst (λ q. MayBe c.args.self.now q c.args.moment c.observe.result) c.as_str.ensures.bytes c.observe.ensures.came) key)
 
-pub add-requires : goal.add-requires
-add-requires c = none_if (record_of c.args.self.now c.as_str-name.result.now)
-    (ap is_some (record_of-inside c.self.inside.inner.entries c.self.inside.low c.self.inside.inner.cap c.args.self.now c.as_str-name.result.now c.self.view_is)
-    ∙ sym c.contains.ensures ∙ c.if-contains.false)
-
-pub returns-else-add-clause-no_memory : goal.returns-else-add-clause-no_memory
-returns-else-add-clause-no_memory c = λ _. none_if (record_of c.args.self.now c.args.key.now)
-    (ap (λ q. is_some (record_of c.args.self.now q)) (sym c.as_str-name.ensures.bytes)
-    ∙ ap is_some (record_of-inside c.self.inside.inner.entries c.self.inside.low c.self.inside.inner.cap c.args.self.now c.as_str-name.result.now c.self.view_is)
-    ∙ sym c.contains.ensures ∙ c.if-contains.false)
-
-pub returns-else-add-clause-came : goal.returns-else-add-clause-came
-returns-else-add-clause-came c = (
-  ap (λ q. is_behind c.args.self.now q c.args.moment) (sym c.as_str-name.ensures.bytes) ∙ sym c.is_behind.ensures ∙ c.if-is_behind.false,
-  none_if (record_of c.args.self.now c.args.key.now)
-  (ap (λ q. is_some (record_of c.args.self.now q)) (sym c.as_str-name.ensures.bytes)
-  ∙ ap is_some (record_of-inside c.self.inside.inner.entries c.self.inside.low c.self.inside.inner.cap c.args.self.now c.as_str-name.result.now c.self.view_is)
-  ∙ sym c.contains.ensures ∙ c.if-contains.false),
-)
+pub returns-clause-keeps_up : goal.returns-clause-keeps_up
+returns-clause-keeps_up c = λ implicit past k.
+    let observed : Record = record { moment = c.args.moment; tick = c.args.tick; shown = c.args.shown } in
+    subst (λ l. KeepsUp implicit (record past { seen = (c.args.key.now, observed) ∷ past.seen }) l)
+    (sym (c.observe.ensures.records ∙ ap (λ q. learned c.args.self.now q observed c.observe.result) c.as_str.ensures.bytes))
+    (KeepsUp-learned implicit past c.args.self.now c.args.key.now observed c.observe.result k
+    (subst (λ q. MayBe c.args.self.now q c.args.moment c.observe.result) c.as_str.ensures.bytes c.observe.ensures.came))
