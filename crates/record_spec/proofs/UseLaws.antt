@@ -239,4 +239,10 @@ NoneFalls-after_all implicit past list (act ∷ acts) k may =
 pub uses_are_lawful : UsesAreLawful
 uses_are_lawful implicit capacity acts may =
     let k = KeepsUp-after_all implicit no_past (empty_list capacity) acts (KeepsUp-empty implicit capacity) may in
-    record { keeps_up = k; lawful = λ key now lifetime. finds_lawful (list_after_all implicit (empty_list capacity) acts) key now lifetime implicit (past_after_all no_past acts) k }
+    let list : RecordList = list_after_all implicit (empty_list capacity) acts in
+    let past : Past = past_after_all no_past acts in
+    record {
+      keeps_up = k;
+      lawful = λ key now lifetime. finds_lawful list key now lifetime implicit past k;
+      rises = λ later may. NoneFalls-after_all implicit past list later k may;
+    }

@@ -57,11 +57,14 @@ StillKeepsUp implicit old act new = (past : Past) → KeepsUp implicit past old 
 abbrev pub FindsLawful : RecordList → Key → ℕ → ℕ → Type 0
 FindsLawful list key now lifetime = (implicit : Bool) (past : Past) → KeepsUp implicit past list → IfSome (live_record list key now lifetime) (IsLawful implicit past key now lifetime)
 
--- along any acts from an empty list on: the list keeps up with the past, and a record that is found may be used
+-- along any acts from an empty list on: the list keeps up with the past, a record that is found may be used, and what
+-- was known once stays known, whatever happens later
 pub record AreLawful (implicit : Bool) (capacity : ℕ) (acts : List Act) : Type 0 where
   pub keeps_up : KeepsUp implicit (past_after_all no_past acts) (list_after_all implicit (empty_list capacity) acts)
   pub lawful : (key : Key) (now lifetime : ℕ) →
       IfSome (live_record (list_after_all implicit (empty_list capacity) acts) key now lifetime) (IsLawful implicit (past_after_all no_past acts) key now lifetime)
+  pub rises : (later : List Act) → MayHappenAll implicit (list_after_all implicit (empty_list capacity) acts) later
+      → NoneFalls (list_after_all implicit (empty_list capacity) acts) (list_after_all implicit (list_after_all implicit (empty_list capacity) acts) later)
 
 abbrev pub UsesAreLawful : Type 0
 UsesAreLawful = (implicit : Bool) (capacity : ℕ) (acts : List Act) → MayHappenAll implicit (empty_list capacity) acts → AreLawful implicit capacity acts

@@ -2,5 +2,7 @@
 #![tactic(auto)]
 
 mod records;
+#[cfg(test)]
+mod tests;
 
 pub use records::{Learned, Record, Shown};

@@ -34,7 +34,7 @@ impl Shown {
 pub struct Record {
     /// The moment of the log entry that showed it.
     pub moment: u64,
-    /// The second at which the call that made it was taken.
+    /// The tick, in seconds, at which the call that asked for it was taken.
     pub tick: u64,
     /// What was shown.
     pub shown: Shown,
@@ -43,10 +43,10 @@ pub struct Record {
 /// What comes of an observation.
 #[derive(Debug, Clone, Copy, PartialEq, Eq)]
 pub enum Learned {
-    /// It is the record of its key, and the most recently used one.
+    /// It is its key's record from now on, and the most recently used one.
     Kept,
-    /// It is older than its key's record, or than something that is no longer known.
+    /// It is below the watermark, or older than its key's record, so it isn't kept.
     Behind,
-    /// Memory for a record was refused.
+    /// Memory for a record was refused, to a key that had none.
     NoMemory,
 }

@@ -59,7 +59,9 @@ impl StatRecords {
         ensures* promotes { sem 𝓛 (EndsAs self.entry (found self.old key.now now lifetime)) }
         ensures shown { told result ≡ told_of (live_record self.old key.now now lifetime) }
         ensures lawful { FindsLawful self.old key.now now lifetime }
+        ensures rises { NoneFalls self.old (found self.old key.now now lifetime) }
     {
+        // Keys stand once, and no more of them than the capacity: the length says so.
         let _ = self.inner.len();
         if !self.has_live(key, now, lifetime) {
             return None;

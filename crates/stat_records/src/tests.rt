@@ -1,19 +1,15 @@
 use crate::{Learned, Shown, StatRecords};
-use io_ports::{NoMemory, Text};
+use io_ports::Text;
 use std::alloc::Global;
 use std::marker::Send;
 use std::test::Fail;
 
 /// Learns at a tick that a key is absent.
-fn learn(
-    list: &mut StatRecords,
-    alloc: Global,
-    key: &str,
-    moment: u64,
-    tick: u64,
-) -> Result<Learned, NoMemory> {
-    let key = Text::of(alloc, key)?;
-    Ok(list.learn(&key, moment, tick, Shown::Absent))
+fn learn(list: &mut StatRecords, alloc: Global, key: &str, moment: u64, tick: u64) -> Learned {
+    let Ok(key) = Text::of(alloc, key) else {
+        return Learned::NoMemory;
+    };
+    list.learn(&key, moment, tick, Shown::Absent)
 }
 
 /// The moment of the record that is found.
@@ -40,26 +36,26 @@ fn crossed<T: Send>(value: T) -> T {
 #[test]
 fn an_older_observation_is_not_revived(rt: HostRuntime) -> Result<(), Fail> {
     let mut list = StatRecords::new(rt.alloc(), 1)?;
-    assert_eq!(rt; learn(&mut list, rt.alloc(), "f", 7, 0)?, Learned::Kept);
-    assert_eq!(rt; learn(&mut list, rt.alloc(), "g", 8, 0)?, Learned::Kept);
+    assert_eq!(rt; learn(&mut list, rt.alloc(), "f", 7, 0), Learned::Kept);
+    assert_eq!(rt; learn(&mut list, rt.alloc(), "g", 8, 0), Learned::Kept);
     assert_eq!(rt; list.low(), 7);
-    assert_eq!(rt; learn(&mut list, rt.alloc(), "f", 5, 0)?, Learned::Behind);
+    assert_eq!(rt; learn(&mut list, rt.alloc(), "f", 5, 0), Learned::Behind);
     assert_eq!(rt; found(&mut list, "f", 0, 10), None);
     list.own_write("g", 9, false);
     assert_eq!(rt; list.low(), 9);
     assert_eq!(rt; found(&mut list, "g", 0, 10), None);
-    assert_eq!(rt; learn(&mut list, rt.alloc(), "g", 8, 0)?, Learned::Behind);
+    assert_eq!(rt; learn(&mut list, rt.alloc(), "g", 8, 0), Learned::Behind);
     Ok(())
 }
 
 #[test]
 fn a_record_ends_with_its_lifetime(rt: HostRuntime) -> Result<(), Fail> {
     let mut list = StatRecords::new(rt.alloc(), 65_536)?;
-    learn(&mut list, rt.alloc(), "f", 1, 0)?;
+    learn(&mut list, rt.alloc(), "f", 1, 0);
     assert_eq!(rt; found(&mut list, "f", 9, 10), Some(1));
     assert_eq!(rt; found(&mut list, "f", 10, 10), None);
     assert_eq!(rt; found(&mut list, "f", 0, 0), None);
-    learn(&mut list, rt.alloc(), "g", 2, u64::MAX)?;
+    learn(&mut list, rt.alloc(), "g", 2, u64::MAX);
     assert_eq!(rt; found(&mut list, "g", u64::MAX, 1), Some(2));
     assert_eq!(rt; found(&mut list, "g", u64::MAX, 0), None);
     Ok(())
@@ -70,11 +66,11 @@ fn a_record_ends_with_its_lifetime(rt: HostRuntime) -> Result<(), Fail> {
 #[test]
 fn a_stat_that_was_overtaken_is_not_kept(rt: HostRuntime) -> Result<(), Fail> {
     let mut list = StatRecords::new(rt.alloc(), 1)?;
-    learn(&mut list, rt.alloc(), "g", 4, 0)?;
-    assert_eq!(rt; learn(&mut list, rt.alloc(), "f", 7, 0)?, Learned::Kept);
-    assert_eq!(rt; learn(&mut list, rt.alloc(), "g", 8, 0)?, Learned::Kept);
+    learn(&mut list, rt.alloc(), "g", 4, 0);
+    assert_eq!(rt; learn(&mut list, rt.alloc(), "f", 7, 0), Learned::Kept);
+    assert_eq!(rt; learn(&mut list, rt.alloc(), "g", 8, 0), Learned::Kept);
     assert_eq!(rt; list.low(), 7);
-    assert_eq!(rt; learn(&mut list, rt.alloc(), "f", 5, 0)?, Learned::Behind);
+    assert_eq!(rt; learn(&mut list, rt.alloc(), "f", 5, 0), Learned::Behind);
     assert_eq!(rt; at(&list, "f"), None);
     assert_eq!(rt; at(&list, "g"), Some(8));
     Ok(())
@@ -83,10 +79,10 @@ fn a_stat_that_was_overtaken_is_not_kept(rt: HostRuntime) -> Result<(), Fail> {
 #[test]
 fn the_record_used_longest_ago_goes(rt: HostRuntime) -> Result<(), Fail> {
     let mut list = StatRecords::new(rt.alloc(), 2)?;
-    learn(&mut list, rt.alloc(), "f", 1, 0)?;
-    learn(&mut list, rt.alloc(), "g", 2, 0)?;
+    learn(&mut list, rt.alloc(), "f", 1, 0);
+    learn(&mut list, rt.alloc(), "g", 2, 0);
     assert_eq!(rt; found(&mut list, "f", 0, 1), Some(1));
-    learn(&mut list, rt.alloc(), "h", 3, 0)?;
+    learn(&mut list, rt.alloc(), "h", 3, 0);
     assert_eq!(rt; at(&list, "g"), None);
     assert_eq!(rt; at(&list, "f"), Some(1));
     assert_eq!(rt; list.low(), 2);
@@ -96,25 +92,25 @@ fn the_record_used_longest_ago_goes(rt: HostRuntime) -> Result<(), Fail> {
 #[test]
 fn an_older_record_is_replaced_and_a_newer_one_stays(rt: HostRuntime) -> Result<(), Fail> {
     let mut list = StatRecords::new(rt.alloc(), 4)?;
-    assert_eq!(rt; learn(&mut list, rt.alloc(), "f", 4, 0)?, Learned::Kept);
-    assert_eq!(rt; learn(&mut list, rt.alloc(), "f", 3, 0)?, Learned::Behind);
-    assert_eq!(rt; learn(&mut list, rt.alloc(), "f", 4, 5)?, Learned::Kept);
-    assert_eq!(rt; learn(&mut list, rt.alloc(), "f", 6, 0)?, Learned::Kept);
+    assert_eq!(rt; learn(&mut list, rt.alloc(), "f", 4, 0), Learned::Kept);
+    assert_eq!(rt; learn(&mut list, rt.alloc(), "f", 3, 0), Learned::Behind);
+    assert_eq!(rt; learn(&mut list, rt.alloc(), "f", 4, 5), Learned::Kept);
+    assert_eq!(rt; learn(&mut list, rt.alloc(), "f", 6, 0), Learned::Kept);
     assert_eq!(rt; list.low(), 0);
     list.own_write("g", 9, false);
-    assert_eq!(rt; learn(&mut list, rt.alloc(), "f", 8, 0)?, Learned::Behind);
+    assert_eq!(rt; learn(&mut list, rt.alloc(), "f", 8, 0), Learned::Behind);
     assert_eq!(rt; at(&list, "f"), None);
-    assert_eq!(rt; learn(&mut list, rt.alloc(), "f", 9, 0)?, Learned::Kept);
+    assert_eq!(rt; learn(&mut list, rt.alloc(), "f", 9, 0), Learned::Kept);
     Ok(())
 }
 
 #[test]
 fn a_write_reaches_the_directories_of_its_name(rt: HostRuntime) -> Result<(), Fail> {
     let mut list = StatRecords::new(rt.alloc(), 8)?;
-    learn(&mut list, rt.alloc(), "a/", 5, 0)?;
-    learn(&mut list, rt.alloc(), "a/b/", 6, 0)?;
-    learn(&mut list, rt.alloc(), "a", 7, 0)?;
-    learn(&mut list, rt.alloc(), "a/b/c", 9, 0)?;
+    learn(&mut list, rt.alloc(), "a/", 5, 0);
+    learn(&mut list, rt.alloc(), "a/b/", 6, 0);
+    learn(&mut list, rt.alloc(), "a", 7, 0);
+    learn(&mut list, rt.alloc(), "a/b/c", 9, 0);
     list.own_write("a/b/c", 8, false);
     assert_eq!(rt; at(&list, "a/b/c"), None);
     assert_eq!(rt; list.low(), 9);

@@ -1,5 +1,6 @@
 use Rattle.std.proofs.Common.{refl, sym, ap, ◌∙◌}
 use Rattle.record_spec.specs.Steps.{live_record}
+use Rattle.record_spec.proofs.KnownLaws.{NoneFalls-found}
 use Rattle.record_spec.proofs.UseLaws.{finds_lawful}
 use Rattle.stat_records.specs.Told.{told_of}
 use Rattle.stat_records.proofs.Views.{found-inside, live-found}
@@ -15,5 +16,6 @@ returns c =
             ∙ ap (λ l. told_of (live_record l c.args.key.now c.args.now c.args.lifetime)) after
             ∙ ap told_of (live-found c.args.self.now c.args.key.now c.args.now c.args.lifetime),
         finds_lawful c.args.self.now c.args.key.now c.args.now c.args.lifetime,
+        NoneFalls-found c.args.self.now c.args.key.now c.args.now c.args.lifetime,
       ),
     )

@@ -1,8 +1,8 @@
-use Rattle.std.proofs.Common.{◌≡◌, ◌≤◌, ◌∷◌, length, sym, ap, subst, ◌∙◌, arith}
+use Rattle.std.proofs.Common.{◌≤◌, ◌∷◌, sym, ap, subst, ◌∙◌}
 use Rattle.record_spec.specs.declared.records.Record.{Record}
 use Rattle.record_spec.specs.RecordList.{known_to}
 use Rattle.record_spec.specs.Steps.{learned, MayBe}
-use Rattle.record_spec.specs.Past.{Past, KeepsUp}
+use Rattle.record_spec.specs.Past.{KeepsUp}
 use Rattle.record_spec.proofs.KnownLaws.{NoneFalls-learned}
 use Rattle.record_spec.proofs.UseLaws.{KeepsUp-learned}
 use Rattle.stat_records.proofs.Views.{few-inside}

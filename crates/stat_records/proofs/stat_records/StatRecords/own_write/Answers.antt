@@ -1,7 +1,7 @@
-use Rattle.std.proofs.Common.{◌≡◌, ◌≤◌, ◌∷◌, sym, ap, subst, ◌∙◌}
+use Rattle.std.proofs.Common.{◌≤◌, ◌∷◌, sym, ap, subst, ◌∙◌}
 use Rattle.record_spec.specs.RecordList.{record_of, known_to}
-use Rattle.record_spec.specs.Steps.{raised, written}
-use Rattle.record_spec.specs.Past.{Past, KeepsUp}
+use Rattle.record_spec.specs.Steps.{raised}
+use Rattle.record_spec.specs.Past.{KeepsUp}
 use Rattle.record_spec.proofs.KnownLaws.{NoneFalls-written}
 use Rattle.record_spec.proofs.UseLaws.{KeepsUp-written}
 use Rattle.record_spec.proofs.WrittenLaws.{none-written, stays-written}

@@ -1,4 +1,4 @@
-use Rattle.std.proofs.Common.{is_some, sym, ap, ◌∙◌}
+use Rattle.std.proofs.Common.{sym, ◌∙◌}
 use Rattle.stat_records.proofs.Views.{record_of-inside, replaced-inside, some_lent}
 use Rattle.stat_records.proofs.stat_records.StatRecords.replace.Goals as goal
 
