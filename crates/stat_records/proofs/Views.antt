@@ -1,5 +1,5 @@
 -- The entries of a table by the bytes of their keys: what one finds, takes out and puts in.
-use Rattle.std.proofs.Common.{◌≡◌, ◌≢◌, ℕ, zero, suc, ◌+◌, ◌-◌, ◌<◌, ◌≤◌, max, Bool, true, false, cond, not, ◌==◌, List, [], ◌∷◌, ◌++◌, map, filter, fold, get_or, append-nil, length, take, slice_get, Option, Some, None, String, string_bytes, bytes_eq, is_some, IsSome, nat_lt, refl, sym, ap, subst, ◌∙◌, arith}
+use Rattle.std.proofs.Common.{◌≡◌, ◌≢◌, ℕ, zero, suc, ◌+◌, ◌-◌, ◌<◌, ◌≤◌, max, Bool, true, false, cond, not, List, [], ◌∷◌, ◌++◌, fold, get_or, append-nil, length, take, slice_get, Option, Some, None, String, string_bytes, bytes_eq, is_some, IsSome, refl, sym, ap, subst, ◌∙◌, arith}
 use borrow.Author.Tests.{eq-eqb, ne_eqb}
 use Rattle.std.proofs.Math.Nat.{max-eq_left}
 use Rattle.std.proofs.lemmas.List.{take_all, take_more}

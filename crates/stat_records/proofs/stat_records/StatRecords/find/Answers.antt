@@ -15,7 +15,9 @@ returns c =
         c.peek.ensures.shown
             ∙ ap (λ l. told_of (live_record l c.args.key.now c.args.now c.args.lifetime)) after
             ∙ ap told_of (live-found c.args.self.now c.args.key.now c.args.now c.args.lifetime),
-        finds_lawful c.args.self.now c.args.key.now c.args.now c.args.lifetime,
-        NoneFalls-found c.args.self.now c.args.key.now c.args.now c.args.lifetime,
+        (
+          finds_lawful c.args.self.now c.args.key.now c.args.now c.args.lifetime,
+          NoneFalls-found c.args.self.now c.args.key.now c.args.now c.args.lifetime,
+        ),
       ),
     )
