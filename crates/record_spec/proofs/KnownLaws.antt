@@ -58,7 +58,8 @@ moment_or-take zero (e ∷ f ∷ es) q low h = absurd (omega arith)
 moment_or-take (suc n) (e ∷ es) q low h = by (moment_or-take n es q low (omega arith)) (bytes_eq q e.0)
   where
     by : moment_or (lookup (bytes_eq q) es) low ≤ moment_or (lookup (bytes_eq q) (take n es)) (option_map_or (λ last. max low last.1.moment) (slice_get es n) low)
-        → (b : Bool) → moment_or (cond b (Some e.1) (lookup (bytes_eq q) es)) low ≤ moment_or (cond b (Some e.1) (lookup (bytes_eq q) (take n es))) (option_map_or (λ last. max low last.1.moment) (slice_get es n) low)
+        → (b : Bool) → moment_or (cond b (Some e.1) (lookup (bytes_eq q) es)) low
+        ≤ moment_or (cond b (Some e.1) (lookup (bytes_eq q) (take n es))) (option_map_or (λ last. max low last.1.moment) (slice_get es n) low)
     by rest true = omega arith
     by rest false = rest
 

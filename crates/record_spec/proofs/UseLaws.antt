@@ -215,7 +215,8 @@ NoneFalls-after implicit list (saw key r came) few may = NoneFalls-learned list 
 NoneFalls-after implicit list (used key moment) few may = NoneFalls-refl list
 NoneFalls-after implicit list (wrote name moment) few may = NoneFalls-written list name moment implicit
 
-pub KeepsUp-after : (implicit : Bool) (past : Past) (list : RecordList) (act : Act) → KeepsUp implicit past list → MayHappen list act → KeepsUp implicit (past_after past act) (list_after implicit list act)
+pub KeepsUp-after : (implicit : Bool) (past : Past) (list : RecordList) (act : Act) → KeepsUp implicit past list → MayHappen list act
+    → KeepsUp implicit (past_after past act) (list_after implicit list act)
 KeepsUp-after implicit past list (find key now lifetime) k may = KeepsUp-found implicit past list key now lifetime k
 KeepsUp-after implicit past list (saw key r came) k may = KeepsUp-learned implicit past list key r came k may
 KeepsUp-after implicit past list (used key moment) k may = KeepsUp-used implicit past list key moment k may

@@ -112,7 +112,8 @@ any-shorter byte key (k ∷ keys) e = by (any-shorter byte key keys) (bytes_eq k
     by rest true is e = (k, same_text key (byte ∷ k) is, or_left (bytes_eq k k) (list_any (bytes_eq k) keys) (text_itself k))
     by rest false is e = let later = rest e in (later.0, later.1, or_right (bytes_eq later.0 k) (list_any (bytes_eq later.0) keys) later.2)
 
-one_byte : (byte : ℕ) (rest key : List ℕ) (b : Bool) → byte == 47 ≡ b → list_any (bytes_eq key) (cond b ((byte ∷ []) ∷ []) []) ≡ true → (ends_in_slash key ≡ true) × ((after : List ℕ) × (byte ∷ rest ≡ key ++ after))
+one_byte : (byte : ℕ) (rest key : List ℕ) (b : Bool) → byte == 47 ≡ b → list_any (bytes_eq key) (cond b ((byte ∷ []) ∷ []) []) ≡ true
+    → (ends_in_slash key ≡ true) × ((after : List ℕ) × (byte ∷ rest ≡ key ++ after))
 one_byte byte rest key true is e =
     let same : key ≡ byte ∷ [] = same_text key (byte ∷ []) (or_one (bytes_eq key (byte ∷ [])) e) in
     (subst (λ k. ends_in_slash k ≡ true) (sym same) is, (rest, ap (λ k. k ++ rest) (sym same)))
@@ -159,7 +160,8 @@ stays-all_gone list (key ∷ keys) q e =
     stays-all_gone (gone list key) keys q parts.1 ∙ stays-gone list key q parts.0
 
 -- the record of a key that a write doesn't write stays
-pub stays-written : (list : RecordList) (name : Key) (moment : ℕ) (implicit : Bool) (key : Key) → ¬ Writes implicit name key → record_of (written list name moment implicit) key ≡ record_of list key
+pub stays-written : (list : RecordList) (name : Key) (moment : ℕ) (implicit : Bool) (key : Key) → ¬ Writes implicit name key
+    → record_of (written list name moment implicit) key ≡ record_of list key
 stays-written list name moment implicit key other = stays-all_gone list (written_keys implicit name) key (by (list_any (bytes_eq key) (written_keys implicit name)) refl)
   where
     by : (b : Bool) → list_any (bytes_eq key) (written_keys implicit name) ≡ b → b ≡ false

@@ -1,3 +1,4 @@
+//! A test that what was shown is copied.
 use crate::Shown;
 use bucket_api::{Meta, Pair};
 use io_ports::{NoMemory, Row, Text};

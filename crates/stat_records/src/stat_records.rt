@@ -1,3 +1,4 @@
+//! The table of records, and its calls.
 ghost use Rattle.std.specs.Prelude.{◌≡◌, ◌≤◌, ◌↔◌, IsTrue, IfOk, OnOk, Bool, length};
 ghost use Rattle.std.specs.Borrow.{sem};
 ghost use Rattle.record_spec.specs.RecordList.{Key, empty_list, record_of};

@@ -1,3 +1,4 @@
+//! Tests of the table: worked examples, ends of ranges, and that it may go to another thread.
 use crate::{Learned, Shown, StatRecords};
 use io_ports::Text;
 use std::alloc::Global;

@@ -1,9 +1,10 @@
+-- A record that is found is before the others, and is told.
 use Rattle.std.proofs.Common.{refl, sym, ap, ◌∙◌}
 use Rattle.record_spec.specs.Steps.{live_record}
 use Rattle.record_spec.proofs.KnownLaws.{NoneFalls-found}
 use Rattle.record_spec.proofs.UseLaws.{finds_lawful}
 use Rattle.stat_records.specs.Told.{told_of}
-use Rattle.stat_records.proofs.Views.{found-inside, live-found}
+use Rattle.stat_records.proofs.Inside.{found-inside, live-found}
 use Rattle.stat_records.proofs.stat_records.StatRecords.find.Goals as goal
 
 pub returns : goal.returns

@@ -1,6 +1,7 @@
+-- A record that was taken out has gone from the list.
 use Rattle.std.proofs.Common.{ap, max, ◌∙◌}
 use Rattle.std.specs.Option.{option_map_or}
-use Rattle.stat_records.proofs.Views.{gone-inside}
+use Rattle.stat_records.proofs.Inside.{gone-inside}
 use Rattle.stat_records.proofs.stat_records.StatRecords.go.Goals as goal
 
 pub returns : goal.returns

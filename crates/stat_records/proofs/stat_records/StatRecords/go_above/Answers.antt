@@ -1,7 +1,8 @@
+-- Each slash makes the record of one more cut go.
 use Rattle.std.proofs.Common.{◌≡◌, ◌+◌, ◌<◌, length, get_or, take, sym, ap, subst, ◌∙◌, arith}
 use Rattle.std.proofs.lemmas.Str.{IsCharBoundary-after_ascii}
 use Rattle.record_spec.specs.Steps.{gone}
-use Rattle.stat_records.proofs.Views.{cut_before, cut_after}
+use Rattle.stat_records.proofs.Inside.{cut_before, cut_after}
 use Rattle.stat_records.proofs.stat_records.StatRecords.go_above.Goals as goal
 use Rattle.stat_records.proofs.stat_records.StatRecords.go_above.Goals.{then-byte-eq47, else-byte-eq47}
 

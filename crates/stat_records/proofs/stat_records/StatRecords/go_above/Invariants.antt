@@ -1,3 +1,4 @@
+-- What the loop over a name's bytes keeps.
 use Rattle.std.proofs.Common.{◌≡◌, take, fold}
 use Rattle.record_spec.specs.Steps.{gone, cuts}
 use Rattle.stat_records.proofs.stat_records.StatRecords.go_above.Given as goal

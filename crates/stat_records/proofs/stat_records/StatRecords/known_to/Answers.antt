@@ -1,6 +1,7 @@
+-- What the table knows of a key is what the list knows.
 use Rattle.std.proofs.Common.{sym, ap, ◌∙◌}
 use Rattle.record_spec.proofs.KnownLaws.{moment_or}
-use Rattle.stat_records.proofs.Views.{record_of-inside}
+use Rattle.stat_records.proofs.Inside.{record_of-inside}
 use Rattle.stat_records.proofs.stat_records.StatRecords.known_to.Goals as goal
 
 pub returns-in-Some : goal.returns-in-Some

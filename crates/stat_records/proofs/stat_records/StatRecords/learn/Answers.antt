@@ -1,3 +1,4 @@
+-- The laws of learning, of the list that is left.
 use Rattle.std.proofs.Common.{◌≤◌, ◌∷◌, sym, ap, subst, ◌∙◌}
 use Rattle.record_spec.specs.declared.records.Record.{Record}
 use Rattle.record_spec.specs.RecordList.{known_to}
@@ -5,7 +6,7 @@ use Rattle.record_spec.specs.Steps.{learned, MayBe}
 use Rattle.record_spec.specs.Past.{KeepsUp}
 use Rattle.record_spec.proofs.KnownLaws.{NoneFalls-learned}
 use Rattle.record_spec.proofs.UseLaws.{KeepsUp-learned}
-use Rattle.stat_records.proofs.Views.{few-inside}
+use Rattle.stat_records.proofs.Inside.{few-inside}
 use Rattle.stat_records.proofs.stat_records.StatRecords.learn.Goals as goal
 
 -- each law of learning, of the list that is left

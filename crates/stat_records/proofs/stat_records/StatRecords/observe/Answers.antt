@@ -1,6 +1,7 @@
+-- Memory is refused only to a key without a record.
 use Rattle.std.proofs.Common.{is_some, sym, ap, ◌∙◌}
 use Rattle.record_spec.specs.RecordList.{record_of}
-use Rattle.stat_records.proofs.Views.{record_of-inside, none_if}
+use Rattle.stat_records.proofs.Inside.{record_of-inside, none_if}
 use Rattle.stat_records.proofs.stat_records.StatRecords.observe.Goals as goal
 
 -- the table has the key exactly where the key has a record

@@ -1,3 +1,4 @@
+-- The laws of a write, of the list that is left.
 use Rattle.std.proofs.Common.{◌≤◌, ◌∷◌, sym, ap, subst, ◌∙◌}
 use Rattle.record_spec.specs.RecordList.{record_of, known_to}
 use Rattle.record_spec.specs.Steps.{raised}

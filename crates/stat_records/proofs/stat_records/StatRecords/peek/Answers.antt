@@ -1,5 +1,7 @@
+-- What `peek` tells is what the list tells.
 use Rattle.std.proofs.Common.{sym, ◌∙◌}
-use Rattle.stat_records.proofs.Views.{record_of-inside, told-none, told-dead, told-live}
+use Rattle.stat_records.proofs.Inside.{record_of-inside}
+use Rattle.stat_records.proofs.Views.{told-none, told-dead, told-live}
 use Rattle.stat_records.proofs.stat_records.StatRecords.peek.Goals as goal
 
 -- what the table has under the key is the key's record
