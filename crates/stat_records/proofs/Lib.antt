@@ -1,0 +1,3 @@
+-- What the table's proofs cite.
+pub mod Inside
+pub mod Views
