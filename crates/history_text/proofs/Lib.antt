@@ -1,0 +1,4 @@
+pub mod PrintLaws
+pub mod TextLaws
+pub mod PartLaws
+pub mod LineLaws

@@ -1,0 +1,66 @@
+-- Laws of texts and lines.
+use Rattle.std.proofs.Common.{◌≡◌, ℕ, ◌+◌, ◌*◌, ◌/◌, ◌%◌, slice_index, List, [], ◌∷◌, ◌++◌, length, map, codes, Bool, true, false, if◌then◌else◌, refl, sym, ap, ◌∙◌, append_assoc, arith}
+use Rattle.std.specs.List.{flat_map}
+use Rattle.std.proofs.lemmas.Grind.{flat_map-append}
+use Rattle.std.proofs.lemmas.List.{map-append}
+use Rattle.hex.specs.Hex.{encode_lower, encode_with, lower_digits}
+use Rattle.bucket_api.specs.LogEvent.{LogEvent}
+use Rattle.mount_model.specs.Journal.{Entry}
+use Rattle.std.specs.Fmt.{decimal}
+use Rattle.mount_model.specs.declared.journal.Use.{Use}
+use Rattle.history_text.specs.Words.{line, spaced, use_word}
+use Rattle.history_text.specs.Lines.{event_line, entry_line}
+use Rattle.history_text.specs.HistoryText.{LinesGoOn, text_of, log_lines, journal_lines}
+
+-- the digits of bytes that stand one behind the other
+pub digits_append : (xs ys : List ℕ) → encode_lower (xs ++ ys) ≡ encode_lower xs ++ encode_lower ys
+unfolding encode_with
+digits_append [] ys = refl
+digits_append (x ∷ xs) ys = ap (λ t. slice_index lower_digits (x / 16) ∷ slice_index lower_digits (x % 16) ∷ t) (digits_append xs ys)
+
+pub digits_none : encode_lower [] ≡ []
+unfolding encode_with
+digits_none = refl
+
+pub length-digits : (xs : List ℕ) → length (encode_lower xs) ≡ 2 * length xs
+unfolding encode_with
+length-digits [] = refl
+length-digits (x ∷ xs) = omega (arith, length-digits xs)
+
+log_goes_on : (moment : ℕ) (log more : List LogEvent)
+    → text_of (log_lines moment (log ++ more)) ≡ text_of (log_lines moment log) ++ text_of (log_lines (moment + length log) more)
+log_goes_on moment [] more = ap (λ m. text_of (log_lines m more)) (omega arith)
+log_goes_on moment (e ∷ log) more =
+    ap (λ t. line (event_line moment e) ++ t)
+    (log_goes_on (moment + 1) log more ∙ ap (λ m. text_of (log_lines (moment + 1) log) ++ text_of (log_lines m more)) (omega arith))
+    ∙ sym (append_assoc (line (event_line moment e)) (text_of (log_lines (moment + 1) log)) (text_of (log_lines (moment + length (e ∷ log)) more)))
+
+-- a longer log, and a longer journal, have further lines behind
+pub lines_go_on : LinesGoOn
+lines_go_on = record {
+  log = log_goes_on;
+  journal = λ journal more.
+      ap text_of (map-append entry_line journal more) ∙ flat_map-append line (journal_lines journal) (journal_lines more);
+}
+
+-- a use of the call's own operation, and one of a record
+pub use_own : (u : Use) → u.own ≡ true → use_word u ≡ codes "o" ++ decimal u.moment ++ (if u.kept then codes "k" else codes "d")
+use_own u own = ap (λ b. if b then codes "o" ++ decimal u.moment ++ (if u.kept then codes "k" else codes "d") else codes "r" ++ decimal u.moment) own
+
+pub use_record : (u : Use) → u.own ≡ false → use_word u ≡ codes "r" ++ decimal u.moment
+use_record u own = ap (λ b. if b then codes "o" ++ decimal u.moment ++ (if u.kept then codes "k" else codes "d") else codes "r" ++ decimal u.moment) own
+
+-- words that are made of items
+pub spaced_map : {X : Type 0} (f : X → List ℕ) (xs : List X) → spaced (map f xs) ≡ flat_map (λ x. codes " " ++ f x) xs
+spaced_map f [] = refl
+spaced_map f (x ∷ xs) = ap (λ t. (codes " " ++ f x) ++ t) (spaced_map f xs)
+
+-- a line whose words come in two parts, and one whose words come in three
+pub line_in_two : (first : List ℕ) (ws vs : List (List ℕ)) → line (first ∷ (ws ++ vs)) ≡ first ++ spaced ws ++ spaced vs ++ 10 ∷ []
+line_in_two first ws vs =
+    ap (λ t. first ++ t ++ 10 ∷ []) (flat_map-append (λ w. codes " " ++ w) ws vs) ∙ ap (λ t. t ++ 10 ∷ []) (sym (append_assoc first (spaced ws) (spaced vs)))
+
+pub line_in_three : (first : List ℕ) (ws vs us : List (List ℕ)) → line (first ∷ (ws ++ (vs ++ us))) ≡ first ++ spaced ws ++ spaced vs ++ spaced us ++ 10 ∷ []
+line_in_three first ws vs us =
+    line_in_two first ws (vs ++ us) ∙ ap (λ t. first ++ spaced ws ++ t ++ 10 ∷ []) (flat_map-append (λ w. codes " " ++ w) vs us)
+    ∙ ap (λ t. t ++ 10 ∷ []) (sym (append_assoc (first ++ spaced ws) (spaced vs) (spaced us)))

@@ -1,0 +1,12 @@
+//! A played history as text, put into a sink piece by piece.
+#![tactic(auto)]
+
+mod lines;
+mod parts;
+mod played;
+mod printer;
+mod word;
+mod writing;
+
+pub use played::Played;
+pub use writing::{WriteFault, write};
