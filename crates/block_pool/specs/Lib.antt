@@ -1,0 +1,3 @@
+-- The words that the contracts of `block_pool` cite.
+pub mod Chains
+pub mod Nodes

@@ -1,0 +1,6 @@
+//! One region of blocks of 65,536 bytes, from which files take chains of blocks, each at a position.
+#![tactic(auto)]
+
+mod node;
+
+pub use node::Node;
