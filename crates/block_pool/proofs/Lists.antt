@@ -4,6 +4,10 @@ use Rattle.std.proofs.lemmas.Bool.{cases_eq, cases_lt, lt-ltb, le-ltb}
 use Rattle.block_pool.specs.Chains.{Entries, AllAbove, Rises, inserted, below}
 use Rattle.block_pool.specs.Nodes.{Has, Once}
 
+pub from_either : {A B C : Type 0} → (A → C) → (B → C) → A ⊎ B → C
+from_either f g (inl a) = f a
+from_either f g (inr b) = g b
+
 -- ---- what is in a list
 pub Has-left : (b : ℕ) (xs ys : List ℕ) → Has b xs → Has b (xs ++ ys)
 Has-left b [] ys h = absurd h

@@ -17,6 +17,11 @@ walk_parts nodes (suc k) m (suc n) b e = ap (λ bs. b ∷ bs) (walk_parts nodes 
 pub walk_end : (nodes : List Node) (k b : ℕ) → walk nodes (suc k) b ≡ walk nodes k b ++ step nodes k b ∷ []
 walk_end nodes k b = walk_parts nodes k 1 (suc k) b (omega arith)
 
+-- one step more
+pub step_next : (nodes : List Node) (k b : ℕ) → step nodes (suc k) b ≡ (node_at nodes (step nodes k b)).next
+step_next nodes zero b = refl
+step_next nodes (suc k) b = step_next nodes k (node_at nodes b).next
+
 pub length-walk : (nodes : List Node) (k b : ℕ) → length (walk nodes k b) ≡ k
 length-walk nodes zero b = refl
 length-walk nodes (suc k) b = ap suc (length-walk nodes k (node_at nodes b).next)
