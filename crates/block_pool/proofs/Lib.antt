@@ -2,3 +2,4 @@ pub mod Lists
 pub mod Walks
 pub mod Relinking
 pub mod Inserting
+pub mod Cutting
