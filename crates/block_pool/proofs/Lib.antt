@@ -3,3 +3,4 @@ pub mod Walks
 pub mod Relinking
 pub mod Inserting
 pub mod Cutting
+pub mod Maps

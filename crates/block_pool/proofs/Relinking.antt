@@ -36,7 +36,7 @@ module _ (nodes other : List Node) (first freed old new block position : ℕ) (l
       let p = was q b n h in
       from_either (λ e. loose.in_no_chain q (subst (λ c. Has c (blocks_at nodes q)) e p.0)) (λ m. p.1 (l.apart q old b p.0 m)) (r.from b k)
 
-  relinked_chain : (q : ℕ) → q ≢ new → q ≢ old → chain_at other q ≡ chain_at nodes q
+  pub relinked_chain : (q : ℕ) → q ≢ new → q ≢ old → chain_at other q ≡ chain_at nodes q
   relinked_chain q n m = ap (placed other) (r.others q n m)
       ∙ placed_same nodes other (blocks_at nodes q) (λ b h. r.positions b (λ p. loose.in_no_chain q (subst (λ c. Has c (blocks_at nodes q)) p h)))
 
