@@ -4,3 +4,4 @@ pub mod Relinking
 pub mod Inserting
 pub mod Cutting
 pub mod Maps
+pub mod Searching

@@ -1,6 +1,6 @@
 -- How chains are linked: each block has a node with its position and the next block of its chain; the node of a chain's
 -- first block has also the number of its blocks and the last one.
-use Rattle.std.specs.Prelude.{◌≡◌, ℕ, zero, suc, ◌+◌, ◌<◌, ◌==◌, List, [], ◌∷◌, ◌++◌, ◌⊎◌, map, length, slice_index_or, slice_set, if◌then◌else◌}
+use Rattle.std.specs.Prelude.{◌≡◌, ℕ, zero, suc, ◌+◌, ◌-◌, ◌<◌, ◌≤◌, ◌==◌, List, [], ◌∷◌, ◌++◌, ◌⊎◌, map, length, slice_index_or, slice_set, if◌then◌else◌}
 use Rattle.std.specs.FinMap as fin
 use Rattle.block_pool.specs.Chains.{Entries, ChainMap, Rises}
 use Rattle.block_pool.specs.declared.node.Node.{Node}
@@ -75,6 +75,10 @@ pub record IsLoose (nodes : List Node) (first freed block : ℕ) : Type 0 where
   pub not_freed : Has block (walk nodes freed first) → ⊥
 
 -- ---- changes of the links
+-- another node for a block
+abbrev pub with_node : List Node → ℕ → Node → List Node
+with_node nodes block node = slice_set nodes block node
+
 -- a block begins a chain of its own
 abbrev pub begun : List Node → ℕ → ℕ → List Node
 begun nodes block position = slice_set nodes block (record { position = position; next = block; last = block; count = 1 })
@@ -106,3 +110,18 @@ put_behind nodes head place block position =
 -- the chain keeps so many blocks, up to this one; its last block comes before the freed ones
 abbrev pub cut_behind : List Node → ℕ → ℕ → ℕ → ℕ → List Node
 cut_behind nodes head place count first_freed = bounded (joined nodes (node_at nodes head).last first_freed) head count place
+
+-- The place of a position in a chain: so many of its blocks are below the position, the last of them at the place.
+pub record IsPlace (nodes : List Node) (head position block kept : ℕ) : Type 0 where
+  pub some : 1 ≤ kept
+  pub few : kept ≤ (node_at nodes head).count
+  pub at : block ≡ step nodes (kept - 1) head
+  pub lower : (node_at nodes block).position < position
+  pub upper : kept < (node_at nodes head).count → position ≤ (node_at nodes (step nodes kept head)).position
+
+-- the blocks of a chain have nodes, and so has its last one
+pub record IsWithin (nodes : List Node) (head : ℕ) : Type 0 where
+  pub steps : (k : ℕ) → k < (node_at nodes head).count → step nodes k head < length nodes
+  pub some : 1 ≤ (node_at nodes head).count
+  pub last : (node_at nodes head).last ≡ step nodes ((node_at nodes head).count - 1) head
+  pub rising : Rises (chain_at nodes head)

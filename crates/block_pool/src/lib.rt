@@ -2,5 +2,6 @@
 #![tactic(auto)]
 
 mod node;
+mod nodes;
 
 pub use node::Node;
