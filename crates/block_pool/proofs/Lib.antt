@@ -5,3 +5,5 @@ pub mod Inserting
 pub mod Cutting
 pub mod Maps
 pub mod Searching
+pub mod Held
+pub mod LinkLaws

@@ -1,5 +1,5 @@
 -- Chains: lists of entries at rising positions, in a finite map from their heads.
-use Rattle.std.specs.Prelude.{◌≡◌, ℕ, ◌<◌, List, [], ◌∷◌, Option, None, Some, filter, nat_lt, nat_eq, if◌then◌else◌}
+use Rattle.std.specs.Prelude.{◌≡◌, ℕ, ◌<◌, List, [], ◌∷◌, Option, None, Some, IsSome, filter, nat_lt, nat_eq, if◌then◌else◌}
 use Rattle.std.specs.FinMap as fin
 use Rattle.std.specs.Map.{lookup}
 use Rattle.std.specs.Option.{unwrap_or}
@@ -51,3 +51,13 @@ inserted (e ∷ es) position value = if nat_lt position e.0 then (position, valu
 -- the entries at positions below this one
 abbrev pub below : {V : Type 0} → Entries V → ℕ → Entries V
 below entries position = filter (λ e. nat_lt e.0 position) entries
+
+-- a chain is one of these: it is empty, or its head is in the map
+abbrev pub IsChain : {V : Type 0} → ChainMap V → Option ℕ → Type 0
+IsChain chains None = Unit {0}
+IsChain chains (Some head) = IsSome (fin.get chains head)
+
+-- the head where there are entries
+abbrev pub head_of : {V : Type 0} → ℕ → Entries V → Option ℕ
+head_of head [] = None
+head_of head (e ∷ es) = Some head

@@ -1,3 +1,4 @@
 -- The words that the contracts of `block_pool` cite.
 pub mod Chains
 pub mod Nodes
+pub mod Links
