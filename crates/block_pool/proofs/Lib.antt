@@ -7,3 +7,4 @@ pub mod Maps
 pub mod Searching
 pub mod Held
 pub mod LinkLaws
+pub mod Parts

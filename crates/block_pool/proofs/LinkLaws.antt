@@ -9,13 +9,13 @@ use Rattle.block_pool.specs.Links.{LinkState, link_state, free_of, blocks_of, Is
 use Rattle.block_pool.specs.Nodes.{no_node, node_at, walk, step, blocks_at, placed, chain_at, all_chains, Has, Once, IsLinked, IsLoose, IsPlace, IsWithin, begun, put_before, put_behind, cut_behind}
 use Rattle.block_pool.specs.declared.node.Node.{Node}
 use Rattle.block_pool.proofs.Lists.{from_either, length-once, AllBelow, AllBelow-upto, below_between}
-use Rattle.block_pool.proofs.Walks.{walk_parts, walk_end, length-walk, placed-append}
+use Rattle.block_pool.proofs.Walks.{Has-step, walk_parts, walk_end, length-walk, placed-append}
 use Rattle.block_pool.proofs.Relinking.{Relinks, Relinks-begun}
 use Rattle.block_pool.proofs.Inserting.{Relinks-before}
 use Rattle.block_pool.proofs.Cutting.{IsLinked-cut, cut_freed, cut_chain, cut_elsewhere, cut_entries, length-cut}
 use Rattle.block_pool.proofs.Maps.{found, nonempty, entries_found, same_numbers, put_same, put_other, taken_other, all_chains-cut, all_chains-gone}
 use Rattle.block_pool.proofs.Searching.{final_within, head_within}
-use Rattle.block_pool.proofs.Held.{IsLoose-free, IsWithin-held, count_of, few_freed, room_for, first_absent, Relinks-place, IsHeld-relinked, state-relinked, state-begun}
+use Rattle.block_pool.proofs.Held.{IsLoose-free, IsFree-loose, IsHeld-fresh, IsLoose-fresh, chains-fresh, IsLinked-next, IsLoose-next, IsWithin-held, count_of, few_freed, room_for, first_absent, Relinks-place, IsHeld-relinked, state-relinked, state-begun}
 
 -- ---- chains that stay as they are
 is_some_given : {X : Type 0} (o : Option X) → IsSome o → (x : X) × (o ≡ Some x)
@@ -110,6 +110,40 @@ module _ {nodes : List Node} {first freed blocks capacity : ℕ} (h : IsHeld nod
 
   pub room_is : (head block : ℕ) → IsFree v block → (node_at nodes head).count + 1 ≤ length nodes
   room_is head block f = room_for nodes first freed head block h.linked (loose block f)
+
+  -- ---- a block that is claimed, the next of the freed ones
+  pub next_within : 0 < freed → first < length nodes
+  next_within lt = h.linked.freed_within first (Has-step nodes 0 freed first lt)
+
+  pub next_held : 0 < freed → (node : Node) → node ≡ node_at nodes first → IsHeld nodes node.next (freed - 1) blocks capacity
+  next_held lt node e = subst (λ (n : Node). IsHeld nodes n.next (freed - 1) blocks capacity) (sym e) (record {
+    linked = IsLinked-next nodes first (freed - 1) (subst (λ n. IsLinked nodes first n) (let s : freed ≡ suc (freed - 1) = omega arith in s) h.linked);
+    few = h.few;
+    room = h.room;
+  })
+
+  pub next_free : 0 < freed → (node : Node) → node ≡ node_at nodes first → IsFree (link_state nodes node.next (freed - 1) blocks) first
+  next_free lt node e = subst (λ (n : Node). IsFree (link_state nodes n.next (freed - 1) blocks) first) (sym e)
+      (IsFree-loose nodes (node_at nodes first).next (freed - 1) blocks first
+      (IsLoose-next nodes first (freed - 1) (subst (λ n. IsLinked nodes first n) (let s : freed ≡ suc (freed - 1) = omega arith in s) h.linked)))
+
+  pub next_used : 0 < freed → (length nodes ≡ cond (nat_eq first v.used) (v.used + 1) v.used) × (first ≤ v.used)
+  next_used lt =
+      let within = next_within lt in
+      let used : length nodes ≡ v.used = ap (λ w. w.used) is in
+      (used ∙ sym (ap (λ t. cond t (v.used + 1) v.used) (ne_eqb first v.used (λ e. absurd (omega arith)))), omega arith)
+
+  -- ---- one that was never used
+  pub fresh_held : (result : List Node) (more : ℕ) → length nodes < blocks → result ≡ nodes ++ no_node ∷ [] → capacity ≤ more → IsHeld result first freed blocks more
+  fresh_held result more lt e le =
+      let held = IsHeld-fresh nodes first freed blocks capacity h lt in
+      subst (λ n. IsHeld n first freed blocks more) (sym e) (record { linked = held.linked; few = held.few; room = omega (arith, held.room) })
+
+  pub fresh_free : (result : List Node) → result ≡ nodes ++ no_node ∷ [] → IsFree (link_state result first freed blocks) (length nodes)
+  fresh_free result e = subst (λ n. IsFree (link_state n first freed blocks) (length nodes)) (sym e) (IsFree-loose (nodes ++ no_node ∷ []) first freed blocks (length nodes) (IsLoose-fresh nodes first freed h.linked))
+
+  pub fresh_shows : (result : List Node) → result ≡ nodes ++ no_node ∷ [] → all_chains result ≡ v.chains
+  fresh_shows result e = ap all_chains e ∙ chains-fresh nodes ∙ ap (λ w. w.chains) is
 
   -- ---- a cut, which keeps so many blocks up to this one
   -- what the blocks that are kept and the next one are to the position

@@ -1,4 +1,5 @@
 -- The words that the contracts of `block_pool` cite.
+pub mod Blocks
 pub mod Chains
 pub mod Nodes
 pub mod Links

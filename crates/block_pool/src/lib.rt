@@ -4,5 +4,7 @@
 mod links;
 mod node;
 mod nodes;
+mod region;
 
 pub use node::Node;
+pub use region::BLOCK;

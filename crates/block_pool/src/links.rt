@@ -4,7 +4,7 @@ ghost use Rattle.block_pool.specs.Chains.{at, below, inserted, entries_of, repla
 ghost use Rattle.block_pool.specs.Links.{IsFree, IsValid, free_of};
 
 use crate::node::Node;
-use crate::nodes::{Place, begin, block_at, cut_behind, node_of, place_below, put_before, put_behind};
+use crate::nodes::{Place, add_node, begin, block_at, cut_behind, node_of, place_below, put_before, put_behind};
 use io_ports::NoMemory;
 use std::alloc::Global;
 use std::marker::Model;
@@ -78,13 +78,7 @@ impl Links {
             return block;
         }
         let block = self.nodes.len();
-        let node = Node {
-            position: 0,
-            next: 0,
-            last: 0,
-            count: 0,
-        };
-        self.nodes.push(node).unwrap();
+        add_node(&mut self.nodes);
         block
     }
 

@@ -1,4 +1,4 @@
-ghost use Rattle.std.specs.Prelude.{◌≡◌, ◌+◌, ◌<◌, ◌≤◌, ◌^◌, vec_len, vec_capacity};
+ghost use Rattle.std.specs.Prelude.{◌≡◌, ◌+◌, ◌<◌, ◌≤◌, ◌^◌, ◌++◌, ◌∷◌, [], vec_len, vec_capacity};
 ghost use Rattle.block_pool.specs.Chains.{at};
 ghost use Rattle.block_pool.specs.Nodes.{node_at, chain_at, IsPlace, IsWithin};
 ghost use Rattle.block_pool.specs.Nodes as spec;
@@ -30,6 +30,22 @@ fn set_node(nodes: &mut Vec<Node>, block: usize, node: Node)
     ensures room { vec_capacity nodes.new ≡ vec_capacity nodes.old }
 {
     nodes[block] = node;
+}
+
+/// A node more, for a block that is used for the first time. It takes no memory.
+pub fn add_node(nodes: &mut Vec<Node>)
+    requires { vec_len nodes.old < vec_capacity nodes.old }
+    ensures nodes { nodes.new.items ≡ nodes.old.items ++ spec.no_node ∷ [] }
+    ensures len { vec_len nodes.new ≡ vec_len nodes.old + 1 }
+    ensures room { vec_capacity nodes.old ≤ vec_capacity nodes.new }
+{
+    let node = Node {
+        position: 0,
+        next: 0,
+        last: 0,
+        count: 0,
+    };
+    nodes.push(node).unwrap();
 }
 
 /// A block begins a chain of its own.
