@@ -8,3 +8,4 @@ pub mod Searching
 pub mod Held
 pub mod LinkLaws
 pub mod Parts
+pub mod RegionLaws

@@ -102,6 +102,7 @@ fn clear_at(bytes: &mut Vec<u8>, start: usize, count: usize)
 }
 
 /// Makes all bytes zeros.
+#[tactic(auto, unfolding(staging_spec::specs::Content::zeros))]
 fn clear(part: &mut [u8])
     ensures { part.new ≡ zeros (length part.old) }
 {
