@@ -43,8 +43,25 @@ IsValid-held nodes first freed blocks capacity h = record {
   apart = λ q p b es fs e f k m. h.linked.apart q p b (has_of nodes q b es e k) (has_of nodes p b fs f m);
   once = λ q es e. subst Once (sym (blocks_of-placed nodes (blocks_at nodes q)) ∙ ap blocks_of (chain_is nodes q es e)) (Once-rising nodes (blocks_at nodes q) (h.linked.rising q));
   rising = λ q es e. subst Rises (chain_is nodes q es e) (h.linked.rising q);
+  headed = λ q es e. in_own q es e (chain_is nodes q es e);
   few = h.few;
 }
+  where
+    first_in : (q k : ℕ) → (node_at nodes q).count ≡ suc k → Has q (blocks_at nodes q)
+    first_in q k e = Has-head nodes q k e
+
+    in_own : (q : ℕ) (es : Entries ℕ) → fin.get (all_chains nodes) q ≡ Some es → chain_at nodes q ≡ es → Has q (blocks_of es)
+    in_own q es g e = at (node_at nodes q).count refl
+      where
+        own : Has q (blocks_at nodes q) → Has q (blocks_of es)
+        own k = subst (λ bs. Has q bs) (sym (blocks_of-placed nodes (blocks_at nodes q)) ∙ ap blocks_of e) k
+
+        at : (n : ℕ) → (node_at nodes q).count ≡ n → Has q (blocks_of es)
+        at zero z = absurd (never (sym (found nodes q ∙ ap (λ n. nonempty (placed nodes (walk nodes n q))) z) ∙ g))
+          where
+            never : None ≡ Some es → ⊥
+            never e = cc
+        at (suc n) s = own (first_in q n s)
 
 pub IsLoose-free : (nodes : List Node) (first freed blocks block : ℕ) → IsFree (link_state nodes first freed blocks) block → IsLoose nodes first freed block
 IsLoose-free nodes first freed blocks block f = record {

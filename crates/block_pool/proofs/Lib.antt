@@ -9,3 +9,4 @@ pub mod Held
 pub mod LinkLaws
 pub mod Parts
 pub mod RegionLaws
+pub mod PoolLaws

@@ -2,4 +2,5 @@
 pub mod Blocks
 pub mod Chains
 pub mod Nodes
+pub mod Pool
 pub mod Links

@@ -47,6 +47,8 @@ pub record IsValid (links : LinkState) : Type 0 where
       → Has block (blocks_of entries) → Has block (blocks_of others) → head ≡ other
   pub once : (head : ℕ) (entries : Entries ℕ) → fin.get links.chains head ≡ Some entries → Once (blocks_of entries)
   pub rising : (head : ℕ) (entries : Entries ℕ) → fin.get links.chains head ≡ Some entries → Rises entries
+  -- a chain has its head
+  pub headed : (head : ℕ) (entries : Entries ℕ) → fin.get links.chains head ≡ Some entries → Has head (blocks_of entries)
   pub few : links.used ≤ links.blocks
 
 -- the nodes are linked, and there is room for one for each block

@@ -56,7 +56,8 @@ impl Links {
     /// The block at a position of a chain, where there is one.
     pub fn find(&self, head: usize, position: u64) -> Option<usize>
         requires { IsSome (fin.get self.now.chains head) }
-        ensures { result ≡ at (entries_of self.now.chains (Some head)) position }
+        ensures block { result ≡ at (entries_of self.now.chains (Some head)) position }
+        ensures valid { IsValid self.now }
     {
         block_at(&self.nodes, head, position)
     }
