@@ -10,3 +10,5 @@ pub mod LinkLaws
 pub mod Parts
 pub mod RegionLaws
 pub mod PoolLaws
+pub mod Totals
+pub mod PoolSteps

@@ -2,7 +2,7 @@
 use Rattle.std.proofs.Common.{◌≡◌, ◌≢◌, ℕ, zero, suc, ◌+◌, ◌-◌, ◌<◌, ◌≤◌, Bool, true, false, cond, List, [], ◌∷◌, ◌++◌, ◌⊎◌, inl, inr, Option, None, Some, IsSome, is_some, refl, sym, ap, subst, ◌∙◌, length, map, get_or, set, take, drop, nat_eq, nat_lt, nat_cmp, arith, length-append}
 use Rattle.std.proofs.lemmas.Bool.{cases_eq, cases_lt, false≢true, eq-eqb, ne_eqb}
 use Rattle.std.proofs.lemmas.Bool.Decides.{nat_tests}
-use Rattle.std.proofs.lemmas.List.{length-map, get_or-set_same, get_or-set_other, get_or_append_left, get_or_at, length-take-le, length-drop}
+use Rattle.std.proofs.lemmas.List.{length-map, get_or-set_same, get_or-set_other, get_or_append_left, get_or_at, length-take-le, length-drop, length-set}
 use Rattle.std.specs.Cmp.{nat_cmp_total}
 use Rattle.std.specs.FinMap as fin
 use Rattle.std.specs.Map.{set_value}
@@ -19,7 +19,7 @@ use Rattle.block_pool.proofs.Maps.{put_same, put_other, taken_same, taken_other,
 use Rattle.block_pool.proofs.Parts.{length-zeros}
 
 -- ---- entries with bytes
-at_filled : (blocks : List (List ℕ)) (es : Entries ℕ) (p : ℕ) → at (filled blocks es) p ≡ option_map (λ b. get_or blocks b []) (at es p)
+pub at_filled : (blocks : List (List ℕ)) (es : Entries ℕ) (p : ℕ) → at (filled blocks es) p ≡ option_map (λ b. get_or blocks b []) (at es p)
 at_filled blocks [] p = refl
 at_filled blocks (e ∷ es) p = step (nat_eq p e.0) (at_filled blocks es p)
   where
@@ -28,7 +28,7 @@ at_filled blocks (e ∷ es) p = step (nat_eq p e.0) (at_filled blocks es p)
     step true more = refl
     step false more = more
 
-filled-inserted : (blocks : List (List ℕ)) (es : Entries ℕ) (p b : ℕ) → filled blocks (inserted es p b) ≡ inserted (filled blocks es) p (get_or blocks b [])
+pub filled-inserted : (blocks : List (List ℕ)) (es : Entries ℕ) (p b : ℕ) → filled blocks (inserted es p b) ≡ inserted (filled blocks es) p (get_or blocks b [])
 filled-inserted blocks [] p b = refl
 filled-inserted blocks (e ∷ es) p b = step (nat_lt p e.0) (filled-inserted blocks es p b)
   where
@@ -37,7 +37,7 @@ filled-inserted blocks (e ∷ es) p b = step (nat_lt p e.0) (filled-inserted blo
     step true more = refl
     step false more = ap (λ fs. (e.0, get_or blocks e.1 []) ∷ fs) more
 
-filled-below : (blocks : List (List ℕ)) (es : Entries ℕ) (p : ℕ) → filled blocks (below es p) ≡ below (filled blocks es) p
+pub filled-below : (blocks : List (List ℕ)) (es : Entries ℕ) (p : ℕ) → filled blocks (below es p) ≡ below (filled blocks es) p
 filled-below blocks [] p = refl
 filled-below blocks (e ∷ es) p = step (nat_lt e.0 p) (filled-below blocks es p)
   where
@@ -47,11 +47,11 @@ filled-below blocks (e ∷ es) p = step (nat_lt e.0 p) (filled-below blocks es p
     step false more = more
 
 -- blocks that the entries don't have may be others
-filled_same : (blocks other : List (List ℕ)) (es : Entries ℕ) → ((b : ℕ) → Has b (blocks_of es) → get_or other b [] ≡ get_or blocks b []) → filled other es ≡ filled blocks es
+pub filled_same : (blocks other : List (List ℕ)) (es : Entries ℕ) → ((b : ℕ) → Has b (blocks_of es) → get_or other b [] ≡ get_or blocks b []) → filled other es ≡ filled blocks es
 filled_same blocks other [] same = refl
 filled_same blocks other (e ∷ es) same = ap (λ v. (e.0, v) ∷ filled other es) (same e.1 (inl refl)) ∙ ap (λ fs. (e.0, get_or blocks e.1 []) ∷ fs) (filled_same blocks other es (λ b h. same b (inr h)))
 
-has_at : (es : Entries ℕ) (p b : ℕ) → at es p ≡ Some b → Has b (blocks_of es)
+pub has_at : (es : Entries ℕ) (p b : ℕ) → at es p ≡ Some b → Has b (blocks_of es)
 has_at [] p b e = absurd (let f : None ≡ Some b = e in cc)
 has_at (e ∷ es) p b f = step (nat_eq p e.0) f (has_at es p b)
   where
@@ -63,7 +63,7 @@ has_at (e ∷ es) p b f = step (nat_eq p e.0) f (has_at es p b)
     step false f more = inr (more f)
 
 -- the one block is other bytes
-filled-set : (blocks : List (List ℕ)) (es : Entries ℕ) (p b : ℕ) (v : List ℕ) → b < length blocks → Once (blocks_of es) → at es p ≡ Some b → filled (set blocks b v) es ≡ set_value (nat_eq p) (filled blocks es) v
+pub filled-set : (blocks : List (List ℕ)) (es : Entries ℕ) (p b : ℕ) (v : List ℕ) → b < length blocks → Once (blocks_of es) → at es p ≡ Some b → filled (set blocks b v) es ≡ set_value (nat_eq p) (filled blocks es) v
 filled-set blocks [] p b v lt once f = refl
 filled-set blocks (e ∷ es) p b v lt once f = step (nat_eq p e.0) f (filled-set blocks es p b v lt once.1)
   where
@@ -81,7 +81,7 @@ filled-set blocks (e ∷ es) p b v lt once f = step (nat_eq p e.0) f (filled-set
     step true f more = ap (λ w. (e.0, w) ∷ filled (set blocks b v) es) (ap (λ n. get_or (set blocks b v) n []) (same f) ∙ get_or-set_same blocks b v [] lt) ∙ ap (λ fs. (e.0, v) ∷ fs) (rest (same f))
     step false f more = ap (λ w. (e.0, w) ∷ filled (set blocks b v) es) (other f) ∙ ap (λ fs. (e.0, get_or blocks e.1 []) ∷ fs) (more f)
 
-length-filled : (blocks : List (List ℕ)) (es : Entries ℕ) → length (filled blocks es) ≡ length es
+pub length-filled : (blocks : List (List ℕ)) (es : Entries ℕ) → length (filled blocks es) ≡ length es
 length-filled blocks es = length-map es (λ e. (e.0, get_or blocks e.1 []))
 
 -- ---- the map with bytes
@@ -137,3 +137,53 @@ pub with_bytes_same : (blocks other : List (List ℕ)) (m : ChainMap ℕ) → ((
 with_bytes_same blocks other m same = same_numbers _ _ (λ q. get-with_bytes other m q
     ∙ given_same blocks other (fin.get m q) (λ es e. filled_same blocks other es (λ b h. same q b es e h))
     ∙ sym (get-with_bytes blocks m q))
+
+-- ---- sizes
+pub sized_at : (size b : ℕ) (bs : List (List ℕ)) → AllOf size bs → b < length bs → length (get_or bs b []) ≡ size
+sized_at size b [] s lt = absurd (omega arith)
+sized_at size zero (x ∷ bs) s lt = s.0
+sized_at size (suc b) (x ∷ bs) s lt = sized_at size b bs s.1 (omega arith)
+
+pub sized-set : (size b : ℕ) (bs : List (List ℕ)) (v : List ℕ) → AllOf size bs → length v ≡ size → AllOf size (set bs b v)
+sized-set size b [] v s e = tt
+sized-set size zero (x ∷ bs) v s e = (e, s.1)
+sized-set size (suc b) (x ∷ bs) v s e = (s.0, sized-set size b bs v s.1 e)
+
+pub sized-push : (size : ℕ) (bs : List (List ℕ)) (v : List ℕ) → AllOf size bs → length v ≡ size → AllOf size (bs ++ v ∷ [])
+sized-push size [] v s e = (e, tt)
+sized-push size (x ∷ bs) v s e = (s.0, sized-push size bs v s.1 e)
+
+pub length-overwritten : (xs : List ℕ) (first : ℕ) (ys : List ℕ) → first + length ys ≤ length xs → length (overwritten xs first ys) ≡ length xs
+length-overwritten xs first ys le =
+    length-append (take first xs) (ys ++ drop (first + length ys) xs)
+    ∙ (let a = length-take-le first xs (omega arith) in let b = length-append ys (drop (first + length ys) xs) in let c = length-drop (first + length ys) xs in omega arith)
+
+-- a block is made ready
+module _ (size block : ℕ) (bs : List (List ℕ)) (sized : AllOf size bs) where
+  pub ready_sized : AllOf size (readied size bs block)
+  ready_sized = at (nat_eq block (length bs))
+    where
+      at : (t : Bool) → AllOf size (cond t (bs ++ zeros size ∷ []) (set bs block (zeros size)))
+      at true = sized-push size bs (zeros size) sized (length-zeros size)
+      at false = sized-set size block bs (zeros size) sized (length-zeros size)
+
+  pub ready_length : length (readied size bs block) ≡ cond (nat_eq block (length bs)) (length bs + 1) (length bs)
+  ready_length = at (nat_eq block (length bs))
+    where
+      at : (t : Bool) → length (cond t (bs ++ zeros size ∷ []) (set bs block (zeros size))) ≡ cond t (length bs + 1) (length bs)
+      at true = length-append bs (zeros size ∷ [])
+      at false = length-set bs block (zeros size)
+
+  pub ready_other : (b : ℕ) → b < length bs → b ≢ block → get_or (readied size bs block) b [] ≡ get_or bs b []
+  ready_other b lt n = at (nat_eq block (length bs))
+    where
+      at : (t : Bool) → get_or (cond t (bs ++ zeros size ∷ []) (set bs block (zeros size))) b [] ≡ get_or bs b []
+      at true = get_or_append_left bs (zeros size ∷ []) [] b lt
+      at false = get_or-set_other bs block b (zeros size) [] n
+
+  pub ready_here : block ≤ length bs → get_or (readied size bs block) block [] ≡ zeros size
+  ready_here le = at (cases_eq block (length bs))
+    where
+      at : (block ≡ length bs) ⊎ (block ≡ length bs → ⊥) → get_or (readied size bs block) block [] ≡ zeros size
+      at (inl e) = ap (λ t. get_or (cond t (bs ++ zeros size ∷ []) (set bs block (zeros size))) block []) (eq-eqb block (length bs) e) ∙ get_or_at bs (zeros size) [] [] block (sym e)
+      at (inr n) = ap (λ t. get_or (cond t (bs ++ zeros size ∷ []) (set bs block (zeros size))) block []) (ne_eqb block (length bs) n) ∙ get_or-set_same bs block (zeros size) [] (omega arith)

@@ -69,6 +69,7 @@ impl Links {
         ensures free { free_of self.new + 1 ≡ free_of self.old }
         ensures used { self.new.used ≡ (if result == self.old.used then self.old.used + 1 else self.old.used) }
         ensures within { result ≤ self.old.used }
+        ensures few { self.new.used ≤ self.new.blocks }
         ensures chains { self.new.chains ≡ self.old.chains }
         ensures blocks { self.new.blocks ≡ self.old.blocks }
     {

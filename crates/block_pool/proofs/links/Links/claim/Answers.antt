@@ -18,6 +18,9 @@ invariant_of-self c = next_held c.self.invariant c.args.self.now c.self.view_is 
 pub returns-then-self-gt0-clause-block : goal.returns-then-self-gt0-clause-block
 returns-then-self-gt0-clause-block c = next_free c.self.invariant c.args.self.now c.self.view_is c.if-self-gt0.true c.node_of.result c.node_of.ensures
 
+pub returns-then-self-gt0-clause-few : goal.returns-then-self-gt0-clause-few
+returns-then-self-gt0-clause-few c = c.self.invariant.few
+
 pub returns-then-self-gt0-clause-used : goal.returns-then-self-gt0-clause-used
 returns-then-self-gt0-clause-used c = (next_used c.self.invariant c.args.self.now c.self.view_is c.if-self-gt0.true).0
 
@@ -57,3 +60,6 @@ returns-clause-block c =
 
 pub returns-clause-chains : goal.returns-clause-chains
 returns-clause-chains c = fresh_shows c.self.invariant c.args.self.now c.self.view_is c.add_node.new.nodes.items c.add_node.ensures.nodes
+
+pub returns-clause-few : goal.returns-clause-few
+returns-clause-few c = (invariant_of-self-2 c).few
