@@ -1,6 +1,6 @@
 -- What each call of the pool leaves, for links and bytes that show a pool.
-use Rattle.std.proofs.Common.{◌≡◌, ◌≢◌, ℕ, zero, suc, ◌+◌, ◌-◌, ◌<◌, ◌≤◌, Bool, true, false, cond, List, [], ◌∷◌, ◌⊎◌, inl, inr, Option, None, Some, IsSome, is_some, refl, sym, ap, subst, ◌∙◌, length, get_or, set, take, drop, nat_eq, nat_lt, arith}
-use Rattle.std.proofs.lemmas.Bool.{cases_eq, false≢true, eq-eqb, ne_eqb}
+use Rattle.std.proofs.Common.{◌≡◌, ◌≢◌, ℕ, zero, suc, ◌+◌, ◌-◌, ◌<◌, ◌≤◌, Bool, true, false, cond, List, [], ◌∷◌, ◌⊎◌, inl, inr, Option, None, Some, IsSome, is_some, refl, sym, ap, subst, ◌∙◌, length, get_or, set, take, drop, nat_eq, nat_lt, nat_cmp, arith}
+use Rattle.std.proofs.lemmas.Bool.{cases_eq, false≢true, eq-eqb, ne_eqb, le-ltb}
 use Rattle.std.proofs.lemmas.List.{get_or-set_other, length-set}
 use Rattle.std.specs.FinMap as fin
 use Rattle.std.specs.Map.{set_value}
@@ -10,10 +10,10 @@ use Rattle.block_pool.specs.Blocks.{RegionBytes, overwritten, readied}
 use Rattle.block_pool.specs.Chains.{Entries, ChainMap, Rises, AllAbove, entries_of, without, with_chain, replaced, at, inserted, below, head_of, IsChain}
 use Rattle.block_pool.specs.Links.{LinkState, free_of, blocks_of, IsFree, IsValid}
 use Rattle.block_pool.specs.Nodes.{Has, Once}
-use Rattle.block_pool.specs.Pool.{Pool, filled, with_bytes, pool_of, total, AllOf, AllSized, IsFilled, IsPool, Keeps, put_block, cut_chain, cut_head, write_block, block_at}
+use Rattle.block_pool.specs.Pool.{Pool, filled, with_bytes, pool_of, total, AllOf, AllSized, IsFilled, IsPool, Keeps, put_block, cut_chain, cut_head, write_block, block_at, give_chain}
 use Rattle.block_pool.proofs.Lists.{from_either}
 use Rattle.block_pool.proofs.Maps.{same_numbers, put_same, put_other, taken_other}
-use Rattle.block_pool.proofs.Totals.{IsBelow, total-replaced, total-without, Keeps-replaced, Keeps-without}
+use Rattle.block_pool.proofs.Totals.{IsBelow, total-empty, total-replaced, total-without, Keeps-replaced, Keeps-without}
 use Rattle.block_pool.proofs.PoolLaws.{at_filled, filled-inserted, filled-below, filled_same, filled-set, has_at, length-filled, get-with_bytes, entries-with_bytes, with_bytes-replaced, with_bytes-without, with_bytes_same, sized_at, sized-set, length-overwritten, ready_sized, ready_length, ready_other, ready_here}
 
 length-inserted : (es : Entries ℕ) (p b : ℕ) → length (inserted es p b) ≡ length es + 1
@@ -211,7 +211,7 @@ module _ (l : LinkState) (r : RegionBytes) (fill : IsFilled l r) (v : Pool) (is 
         ∙ ap (λ m. replaced m (Some head) left (filled r.blocks (below (entries_of l.chains (Some head)) position))) chains_are
         ∙ ap (replaced v.chains (Some head) left) kept_entries
 
-    less_head : left ≡ cut_head v.chains (Some head) position
+    pub less_head : left ≡ cut_head v.chains (Some head) position
     less_head = less.heads ∙ same_head (below (entries_of l.chains (Some head)) position) (below (entries_of v.chains (Some head)) position) kept_entries
       where
         same_head : (es : Entries ℕ) (fs : Entries (List ℕ)) → filled r.blocks es ≡ fs → head_of head es ≡ head_of head fs
@@ -219,10 +219,6 @@ module _ (l : LinkState) (r : RegionBytes) (fill : IsFilled l r) (v : Pool) (is 
         same_head [] (f ∷ fs) e = absurd (cc)
         same_head (x ∷ es) [] e = absurd (cc)
         same_head (x ∷ es) (f ∷ fs) e = refl
-
-    -- the chain is another one of its head, or gone
-    abbrev pub Old : Option ℕ → Type 0
-    Old now = now ≡ Some head
 
     pub less_shows : (was now : Option ℕ) → was ≡ Some head → now ≡ left → pool_of cut r ≡ cut_chain v was now position
     less_shows was now e f =
@@ -370,3 +366,38 @@ module _ (l : LinkState) (r : RegionBytes) (fill : IsFilled l r) (v : Pool) (is 
       total_filled zero = refl
       total_filled (suc n) = ap (λ t. t + length (entries_of (with_bytes r.blocks l.chains) (Some n))) (total_filled n)
           ∙ ap (λ k. total l.chains n + k) (ap length (entries-with_bytes r.blocks l.chains (Some n)) ∙ length-filled r.blocks (entries_of l.chains (Some n)))
+
+-- ---- a new pool
+no_chains : (m : ChainMap ℕ) → m ≡ fin.empty → (q : ℕ) → fin.get m q ≡ None
+no_chains m e q = ap (λ n. fin.get n q) e ∙ fin.get-empty nat_cmp q
+
+pub new_filled : (blocks : ℕ) (l : LinkState) (r : RegionBytes) → l ≡ record { chains = fin.empty; used = 0; freed = []; blocks = blocks } → r ≡ record { blocks = []; limit = blocks } → IsFilled l r
+new_filled blocks l r e f =
+    subst (λ k. IsFilled k r) (sym e) (subst (IsFilled (record { chains = fin.empty; used = 0; freed = []; blocks = blocks })) (sym f) (record {
+      used = refl;
+      limit = refl;
+      sized = tt;
+      all = let none = total-empty {V = ℕ} fin.empty blocks (λ q. fin.get-empty nat_cmp q) in omega arith;
+    }))
+
+pub new_shows : (blocks : ℕ) (l : LinkState) (r : RegionBytes) → l ≡ record { chains = fin.empty; used = 0; freed = []; blocks = blocks } → r ≡ record { blocks = []; limit = blocks }
+    → pool_of l r ≡ record { chains = fin.empty; free = blocks; blocks = blocks }
+new_shows blocks l r e f =
+    same_pool (with_bytes r.blocks l.chains) fin.empty (free_of l) blocks l.blocks blocks
+    (same_numbers _ _ (λ q. get-with_bytes r.blocks l.chains q ∙ ap (option_map (filled r.blocks)) (no_chains l.chains (ap (λ w. w.chains) e) q) ∙ sym (fin.get-empty nat_cmp q)))
+    (ap free_of e ∙ (let s : 0 + (blocks - 0) ≡ blocks = omega arith in s)) (ap (λ w. w.blocks) e)
+
+-- ---- a chain that is given back
+none_below : {V : Type 0} (es : Entries V) → below es 0 ≡ []
+none_below [] = refl
+none_below (e ∷ es) = ap (λ t. cond t (e ∷ below es 0) (below es 0)) (le-ltb e.0 0 (omega arith)) ∙ none_below es
+
+no_head : (chains : ChainMap (List ℕ)) (head : Option ℕ) → cut_head chains head 0 ≡ None
+no_head chains None = refl
+no_head chains (Some q) = ap (head_of q) (none_below (entries_of chains (Some q)))
+
+pub given_back : (v : Pool) (head now : Option ℕ) → now ≡ cut_head v.chains head 0 → cut_chain v head now 0 ≡ give_chain v head
+given_back v head now e =
+    ap (λ n. cut_chain v head n 0) (e ∙ no_head v.chains head)
+    ∙ same_pool (without v.chains head) (without v.chains head) ((v.free + length (entries_of v.chains head)) - length (below (entries_of v.chains head) 0)) (v.free + length (entries_of v.chains head)) v.blocks v.blocks
+    refl (ap (λ es. (v.free + length (entries_of v.chains head)) - length es) (none_below (entries_of v.chains head)) ∙ (let s : (v.free + length (entries_of v.chains head)) - 0 ≡ v.free + length (entries_of v.chains head) = omega arith in s)) refl

@@ -111,6 +111,7 @@ impl Links {
         requires { IsSome (fin.get self.old.chains head) }
         ensures chains { self.new.chains ≡ replaced self.old.chains (Some head) result (below (entries_of self.old.chains (Some head)) position) }
         ensures head { result ≡ head_of head (below (entries_of self.old.chains (Some head)) position) }
+        ensures valid { IsValid self.old }
         ensures free { free_of self.new + length (below (entries_of self.old.chains (Some head)) position) ≡ free_of self.old + length (entries_of self.old.chains (Some head)) }
         ensures used { self.new.used ≡ self.old.used }
         ensures blocks { self.new.blocks ≡ self.old.blocks }

@@ -1,8 +1,9 @@
 use Rattle.std.proofs.Common.{◌≡◌, ◌<◌, ◌≤◌, ◌+◌, ◌-◌, ℕ, suc, length, vec_capacity, Some, None, sym, ap, subst, ◌∙◌, arith}
 use Rattle.block_pool.specs.Chains.{entries_of, below, head_of, replaced}
-use Rattle.block_pool.specs.Links.{IsHeld, link_state, free_of}
+use Rattle.block_pool.specs.Links.{IsHeld, IsValid, link_state, free_of}
 use Rattle.block_pool.specs.Nodes.{node_at, step, cut_behind, all_chains}
 use Rattle.block_pool.specs.declared.node.Node.{Node}
+use Rattle.block_pool.proofs.Held.{IsValid-held}
 use Rattle.block_pool.proofs.LinkLaws.{whole, IsCut, IsCut-whole, IsCut-place, held_cut, fits_cut, free_cut, gone_cut, some_cut, uncut}
 use Rattle.block_pool.proofs.Searching.{head_within, final_within, place_within, next_is}
 use Rattle.block_pool.proofs.links.Links.cut.Goals as goal
@@ -143,3 +144,12 @@ returns-clause-free c =
     subst (λ n. free_of (link_state c.cut_behind-2.new.nodes.items c.node_of-tail.result.next (c.self.inside.freed + (n - c.place_below-place.result.kept)) c.self.inside.blocks) + left ≡ was) (sym count)
     (subst (λ n. free_of (link_state c.cut_behind-2.new.nodes.items n (c.self.inside.freed + ((node_at c.self.inside.nodes.items c.args.head).count - c.place_below-place.result.kept)) c.self.inside.blocks) + left ≡ was) (sym tail)
     (free_cut c.self.invariant c.args.self.now c.self.view_is c.args.head c.args.position c.place_below-place.result.block c.place_below-place.result.kept c.requires cut c.cut_behind-2.new.nodes.items c.cut_behind-2.ensures.nodes))
+
+pub returns-then-position-first-clause-valid : goal.returns-then-position-first-clause-valid
+returns-then-position-first-clause-valid c = subst IsValid c.self.view_is (IsValid-held c.self.inside.nodes.items c.self.inside.first_freed c.self.inside.freed c.self.inside.blocks (vec_capacity c.self.inside.nodes) c.self.invariant)
+
+pub returns-then-place-first-clause-valid : goal.returns-then-place-first-clause-valid
+returns-then-place-first-clause-valid c = subst IsValid c.self.view_is (IsValid-held c.self.inside.nodes.items c.self.inside.first_freed c.self.inside.freed c.self.inside.blocks (vec_capacity c.self.inside.nodes) c.self.invariant)
+
+pub returns-clause-valid : goal.returns-clause-valid
+returns-clause-valid c = subst IsValid c.self.view_is (IsValid-held c.self.inside.nodes.items c.self.inside.first_freed c.self.inside.freed c.self.inside.blocks (vec_capacity c.self.inside.nodes) c.self.invariant)

@@ -1,28 +1,38 @@
-use Rattle.std.proofs.Common.{rules, ◌≡◌, ℕ, ◌+◌, ◌≤◌, ◌<◌, Bool, None, Some, IsSome, is_some, IfOk, IfSome, length, take, drop, nat_lt, nat_le, if◌then◌else◌, ◌-◌, ◌*◌, ◌/◌, ◌%◌, true, false, nat_eq, List, [], ◌∷◌, ◌++◌, slice_index_or, slice_set, bit_and, bit_or, Fits, w8, w32, w64, Bor, MutBor}
-use Rattle.std.specs.Bool.{OnTrue, OnFalse}
-use Rattle.std.specs.FinMap as fin
-use Rattle.std.specs.Option.{IfNone}
-use Rattle.block_pool.specs.Chains.{at, entries_of, IsChain}
-use Rattle.block_pool.specs.Pool as spec
-use Rattle.block_pool.specs.Pool.{IsPool, Keeps}
+use Rattle.std.proofs.Common.{◌≡◌, ◌≢◌, ◌<◌, ◌+◌, ◌-◌, ◌∙◌, ℕ, List, [], ◌∷◌, Option, None, Some, IsSome, is_some, refl, sym, ap, subst, length, take, drop, cond, arith}
+use Rattle.block_pool.specs.Chains.{IsChain}
+use Rattle.block_pool.specs.Pool.{cut_head}
+use Rattle.block_pool.proofs.PoolSteps.{IsLess, chain_is, less_head, less_shows, less_filled, less_keeps}
 use Rattle.block_pool.proofs.pool.BlockPool.cut_from.Goals as goal
 
--- src/pool.rt:99:13
 pub cut-left-requires : goal.cut-left-requires
-cut-left-requires c = ?
+cut-left-requires c =
+    chain_is c.self.inside.links c.self.inside.region c.self.invariant c.args.self.now c.self.view_is (Some c.in-Some.head) (subst (IsChain c.args.self.now.chains) (sym c.head.ensures ∙ c.in-Some.is) c.requires)
 
--- src/pool.rt:90:5
+-- the chain has this head
+was : (c : goal.After-set_head) → c.args.chain.now ≡ Some c.in-Some.head
+was c = sym c.head.ensures ∙ c.in-Some.is
+
+-- the facts of the cut
+less : (c : goal.After-set_head) → IsLess c.self.inside.links c.self.inside.region c.self.invariant c.args.self.now c.self.view_is c.cut-left.new.self c.in-Some.head c.args.position c.cut-left.result
+less c = record {
+  own = subst (IsChain c.args.self.now.chains) (was c) c.requires;
+  chains = c.cut-left.ensures.chains;
+  heads = c.cut-left.ensures.head;
+  free = c.cut-left.ensures.free;
+  used = c.cut-left.ensures.used;
+  blocks = c.cut-left.ensures.blocks;
+}
+
 pub invariant_of-self : goal.invariant_of-self
-invariant_of-self c = ?
+invariant_of-self c = less_filled c.self.inside.links c.self.inside.region c.self.invariant c.args.self.now c.self.view_is c.cut-left.ensures.valid c.cut-left.new.self c.in-Some.head c.args.position c.cut-left.result (less c)
 
--- src/pool.rt:90:5
 pub returns-clause-ok : goal.returns-clause-ok
-returns-clause-ok c = ?
+returns-clause-ok c = less_shows c.self.inside.links c.self.inside.region c.self.invariant c.args.self.now c.self.view_is c.cut-left.ensures.valid c.cut-left.new.self c.in-Some.head c.args.position c.cut-left.result (less c) c.args.chain.now c.set_head.new.self (was c) c.set_head.ensures
 
--- src/pool.rt:90:5
 pub returns-clause-head : goal.returns-clause-head
-returns-clause-head c = ?
+returns-clause-head c =
+    c.set_head.ensures ∙ less_head c.self.inside.links c.self.inside.region c.self.invariant c.args.self.now c.self.view_is c.cut-left.ensures.valid c.cut-left.new.self c.in-Some.head c.args.position c.cut-left.result (less c)
+    ∙ ap (λ h. cut_head c.args.self.now.chains h c.args.position) (sym (was c))
 
--- src/pool.rt:90:5
 pub returns-clause-kept : goal.returns-clause-kept
-returns-clause-kept c = ?
+returns-clause-kept c = less_keeps c.self.inside.links c.self.inside.region c.self.invariant c.args.self.now c.self.view_is c.cut-left.ensures.valid c.cut-left.new.self c.in-Some.head c.args.position c.cut-left.result (less c) c.args.chain.now c.set_head.new.self (was c) c.set_head.ensures

@@ -1,12 +1,5 @@
-use Rattle.std.proofs.Common.{rules, ◌≡◌, ℕ, ◌+◌, ◌≤◌, ◌<◌, Bool, None, Some, IsSome, is_some, IfOk, IfSome, length, take, drop, nat_lt, nat_le, if◌then◌else◌, ◌-◌, ◌*◌, ◌/◌, ◌%◌, true, false, nat_eq, List, [], ◌∷◌, ◌++◌, slice_index_or, slice_set, bit_and, bit_or, Fits, w8, w32, w64, Bor, MutBor}
-use Rattle.std.specs.Bool.{OnTrue, OnFalse}
-use Rattle.std.specs.FinMap as fin
-use Rattle.std.specs.Option.{IfNone}
-use Rattle.block_pool.specs.Chains.{at, entries_of, IsChain}
-use Rattle.block_pool.specs.Pool as spec
-use Rattle.block_pool.specs.Pool.{IsPool, Keeps}
+use Rattle.block_pool.proofs.PoolSteps.{IsPool-filled}
 use Rattle.block_pool.proofs.pool.BlockPool.free.Goals as goal
 
--- src/pool.rt:51:5
 pub returns-clause-valid : goal.returns-clause-valid
-returns-clause-valid c = ?
+returns-clause-valid c = IsPool-filled c.self.inside.links c.self.inside.region c.self.invariant c.args.self.now c.self.view_is c.free.ensures.valid

@@ -1,12 +1,6 @@
-use Rattle.std.proofs.Common.{rules, ◌≡◌, ℕ, ◌+◌, ◌≤◌, ◌<◌, Bool, None, Some, IsSome, is_some, IfOk, IfSome, length, take, drop, nat_lt, nat_le, if◌then◌else◌, ◌-◌, ◌*◌, ◌/◌, ◌%◌, true, false, nat_eq, List, [], ◌∷◌, ◌++◌, slice_index_or, slice_set, bit_and, bit_or, Fits, w8, w32, w64, Bor, MutBor}
-use Rattle.std.specs.Bool.{OnTrue, OnFalse}
-use Rattle.std.specs.FinMap as fin
-use Rattle.std.specs.Option.{IfNone}
-use Rattle.block_pool.specs.Chains.{at, entries_of, IsChain}
-use Rattle.block_pool.specs.Pool as spec
-use Rattle.block_pool.specs.Pool.{IsPool, Keeps}
+use Rattle.std.proofs.Common.{◌≡◌, ◌≢◌, ◌<◌, ◌+◌, ◌-◌, ◌∙◌, ℕ, List, [], ◌∷◌, Option, None, Some, IsSome, is_some, refl, sym, ap, subst, length, take, drop, cond, arith}
+use Rattle.block_pool.proofs.PoolSteps.{given_back}
 use Rattle.block_pool.proofs.pool.BlockPool.give.Goals as goal
 
--- src/pool.rt:104:5
 pub returns-clause-ok : goal.returns-clause-ok
-returns-clause-ok c = ?
+returns-clause-ok c = c.cut_from.ensures.ok ∙ given_back c.args.self.now c.args.chain c.cut_from.new.chain c.cut_from.ensures.head

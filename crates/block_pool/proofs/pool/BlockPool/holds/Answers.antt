@@ -1,16 +1,12 @@
-use Rattle.std.proofs.Common.{rules, ◌≡◌, ℕ, ◌+◌, ◌≤◌, ◌<◌, Bool, None, Some, IsSome, is_some, IfOk, IfSome, length, take, drop, nat_lt, nat_le, if◌then◌else◌, ◌-◌, ◌*◌, ◌/◌, ◌%◌, true, false, nat_eq, List, [], ◌∷◌, ◌++◌, slice_index_or, slice_set, bit_and, bit_or, Fits, w8, w32, w64, Bor, MutBor}
-use Rattle.std.specs.Bool.{OnTrue, OnFalse}
-use Rattle.std.specs.FinMap as fin
-use Rattle.std.specs.Option.{IfNone}
-use Rattle.block_pool.specs.Chains.{at, entries_of, IsChain}
-use Rattle.block_pool.specs.Pool as spec
-use Rattle.block_pool.specs.Pool.{IsPool, Keeps}
+use Rattle.std.proofs.Common.{◌≡◌, ◌≢◌, ◌<◌, ◌+◌, ◌-◌, ◌∙◌, ℕ, List, [], ◌∷◌, Option, None, Some, IsSome, is_some, refl, sym, ap, subst, length, take, drop, cond, arith}
+use Rattle.block_pool.specs.Chains.{IsChain, at, entries_of}
+use Rattle.block_pool.proofs.PoolSteps.{chain_is, some_same}
 use Rattle.block_pool.proofs.pool.BlockPool.holds.Goals as goal
 
--- src/pool.rt:66:9
 pub find-requires : goal.find-requires
-find-requires c = ?
+find-requires c = chain_is c.self.inside.links c.self.inside.region c.self.invariant c.args.self.now c.self.view_is (Some c.in-Some.head) (subst (IsChain c.args.self.now.chains) (sym c.head.ensures ∙ c.in-Some.is) c.requires)
 
--- src/pool.rt:59:5
 pub returns : goal.returns
-returns c = ?
+returns c =
+    c.is_some.ensures ∙ ap is_some c.find.ensures.block ∙ sym (some_same c.self.inside.links c.self.inside.region c.self.invariant c.args.self.now c.self.view_is (Some c.in-Some.head) c.args.position)
+    ∙ ap (λ h. is_some (at (entries_of c.args.self.now.chains h) c.args.position)) (sym (sym c.head.ensures ∙ c.in-Some.is))

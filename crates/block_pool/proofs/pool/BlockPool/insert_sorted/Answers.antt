@@ -1,28 +1,41 @@
-use Rattle.std.proofs.Common.{rules, ◌≡◌, ℕ, ◌+◌, ◌≤◌, ◌<◌, Bool, None, Some, IsSome, is_some, IfOk, IfSome, length, take, drop, nat_lt, nat_le, if◌then◌else◌, ◌-◌, ◌*◌, ◌/◌, ◌%◌, true, false, nat_eq, List, [], ◌∷◌, ◌++◌, slice_index_or, slice_set, bit_and, bit_or, Fits, w8, w32, w64, Bor, MutBor}
-use Rattle.std.specs.Bool.{OnTrue, OnFalse}
-use Rattle.std.specs.FinMap as fin
-use Rattle.std.specs.Option.{IfNone}
-use Rattle.block_pool.specs.Chains.{at, entries_of, IsChain}
-use Rattle.block_pool.specs.Pool as spec
-use Rattle.block_pool.specs.Pool.{IsPool, Keeps}
+use Rattle.std.proofs.Common.{◌≡◌, ◌⊎◌, ◌≢◌, ◌<◌, ◌+◌, ◌-◌, ◌∙◌, ℕ, List, [], ◌∷◌, Option, None, Some, IsSome, is_some, refl, sym, ap, subst, length, take, drop, cond, arith}
+use Rattle.block_pool.specs.Chains.{IsChain, at, entries_of, inserted, replaced}
+use Rattle.block_pool.specs.Links.{LinkState}
+use Rattle.block_pool.proofs.PoolSteps.{IsPut, chain_is, absent_is, put_shows, put_filled, put_keeps}
 use Rattle.block_pool.proofs.pool.BlockPool.insert_sorted.Goals as goal
 
--- src/pool.rt:84:13
 pub link-head-requires-clause-chain : goal.link-head-requires-clause-chain
-link-head-requires-clause-chain c = ?
+link-head-requires-clause-chain c =
+    subst (λ m. IsChain m c.head.result) (sym c.claim-block.ensures.chains)
+    (subst (IsChain c.self.inside.links.chains) (sym c.head.ensures) (chain_is c.self.inside.links c.self.inside.region c.self.invariant c.args.self.now c.self.view_is c.args.chain.now c.requires.chain))
 
--- src/pool.rt:84:13
 pub link-head-requires-clause-absent : goal.link-head-requires-clause-absent
-link-head-requires-clause-absent c = ?
+link-head-requires-clause-absent c =
+    subst (λ m. at (entries_of m c.head.result) c.args.position ≡ None) (sym c.claim-block.ensures.chains)
+    (subst (λ h. at (entries_of c.self.inside.links.chains h) c.args.position ≡ None) (sym c.head.ensures) (absent_is c.self.inside.links c.self.inside.region c.self.invariant c.args.self.now c.self.view_is c.args.chain.now c.args.position c.requires.absent))
 
--- src/pool.rt:71:5
+-- the facts of each call
+put : (c : goal.After-set_head) → IsPut c.self.inside.links c.self.inside.region c.self.invariant c.args.self.now c.self.view_is
+    c.claim-block.new.self c.link-head.new.self c.ready.new.self c.args.chain.now c.claim-block.result c.args.position c.link-head.result
+put c = record {
+  own = c.requires.chain;
+  loose = c.claim-block.ensures.block;
+  free = c.claim-block.ensures.free;
+  used = c.claim-block.ensures.used;
+  within = c.claim-block.ensures.within;
+  few = c.claim-block.ensures.few;
+  chains = c.claim-block.ensures.chains;
+  blocks = c.claim-block.ensures.blocks;
+  bytes = c.ready.ensures;
+  links = subst (λ h. c.link-head.new.self ≡ record c.claim-block.new.self { chains = replaced c.claim-block.new.self.chains h (Some c.link-head.result) (inserted (entries_of c.claim-block.new.self.chains h) c.args.position c.claim-block.result) }) c.head.ensures c.link-head.ensures.links;
+  heads = subst (λ h. (c.link-head.result ≡ c.claim-block.result) ⊎ (h ≡ Some c.link-head.result)) c.head.ensures c.link-head.ensures.head;
+}
+
 pub invariant_of-self : goal.invariant_of-self
-invariant_of-self c = ?
+invariant_of-self c = put_filled c.self.inside.links c.self.inside.region c.self.invariant c.args.self.now c.self.view_is c.free.ensures.valid c.claim-block.new.self c.link-head.new.self c.ready.new.self c.args.chain.now c.claim-block.result c.args.position c.link-head.result (put c)
 
--- src/pool.rt:71:5
 pub returns-clause-ok : goal.returns-clause-ok
-returns-clause-ok c = ?
+returns-clause-ok c = put_shows c.self.inside.links c.self.inside.region c.self.invariant c.args.self.now c.self.view_is c.free.ensures.valid c.claim-block.new.self c.link-head.new.self c.ready.new.self c.args.chain.now c.claim-block.result c.args.position c.link-head.result (put c) c.set_head.new.self c.set_head.ensures
 
--- src/pool.rt:71:5
 pub returns-clause-kept : goal.returns-clause-kept
-returns-clause-kept c = ?
+returns-clause-kept c = put_keeps c.self.inside.links c.self.inside.region c.self.invariant c.args.self.now c.self.view_is c.free.ensures.valid c.claim-block.new.self c.link-head.new.self c.ready.new.self c.args.chain.now c.claim-block.result c.args.position c.link-head.result (put c) c.set_head.new.self c.set_head.ensures

@@ -1,16 +1,13 @@
-use Rattle.std.proofs.Common.{rules, ◌≡◌, ℕ, ◌+◌, ◌≤◌, ◌<◌, Bool, None, Some, IsSome, is_some, IfOk, IfSome, length, take, drop, nat_lt, nat_le, if◌then◌else◌, ◌-◌, ◌*◌, ◌/◌, ◌%◌, true, false, nat_eq, List, [], ◌∷◌, ◌++◌, slice_index_or, slice_set, bit_and, bit_or, Fits, w8, w32, w64, Bor, MutBor}
-use Rattle.std.specs.Bool.{OnTrue, OnFalse}
+use Rattle.std.proofs.Common.{◌≡◌, ◌≢◌, ◌<◌, ◌+◌, ◌-◌, ◌∙◌, ℕ, List, [], ◌∷◌, Option, None, Some, IsSome, is_some, refl, sym, ap, subst, length, take, drop, cond, arith}
 use Rattle.std.specs.FinMap as fin
-use Rattle.std.specs.Option.{IfNone}
-use Rattle.block_pool.specs.Chains.{at, entries_of, IsChain}
-use Rattle.block_pool.specs.Pool as spec
-use Rattle.block_pool.specs.Pool.{IsPool, Keeps}
+use Rattle.block_pool.specs.Blocks.{RegionBytes}
+use Rattle.block_pool.specs.Links.{LinkState}
+use Rattle.block_pool.specs.Pool.{IsFilled}
+use Rattle.block_pool.proofs.PoolSteps.{new_filled, new_shows}
 use Rattle.block_pool.proofs.pool.BlockPool.new.Goals as goal
 
--- src/pool.rt:47:9
 pub invariant_of-result : goal.invariant_of-result
-invariant_of-result c = ?
+invariant_of-result c = new_filled c.args.blocks c.in_ok-links.links c.in_ok-region.region c.in_ok-links.ensures.ok c.in_ok-region.ensures.ok
 
--- src/pool.rt:42:5
 pub returns : goal.returns
-returns c = ?
+returns c = record { ok = new_shows c.args.blocks c.in_ok-links.links c.in_ok-region.region c.in_ok-links.ensures.ok c.in_ok-region.ensures.ok }

@@ -1,32 +1,28 @@
-use Rattle.std.proofs.Common.{rules, ◌≡◌, ℕ, ◌+◌, ◌≤◌, ◌<◌, Bool, None, Some, IsSome, is_some, IfOk, IfSome, length, take, drop, nat_lt, nat_le, if◌then◌else◌, ◌-◌, ◌*◌, ◌/◌, ◌%◌, true, false, nat_eq, List, [], ◌∷◌, ◌++◌, slice_index_or, slice_set, bit_and, bit_or, Fits, w8, w32, w64, Bor, MutBor}
-use Rattle.std.specs.Bool.{OnTrue, OnFalse}
-use Rattle.std.specs.FinMap as fin
-use Rattle.std.specs.Option.{IfNone}
-use Rattle.block_pool.specs.Chains.{at, entries_of, IsChain}
-use Rattle.block_pool.specs.Pool as spec
-use Rattle.block_pool.specs.Pool.{IsPool, Keeps}
+use Rattle.std.proofs.Common.{◌≡◌, ◌≢◌, ◌<◌, ◌+◌, ◌-◌, ◌∙◌, ℕ, List, [], ◌∷◌, Option, None, Some, IsSome, is_some, refl, sym, ap, subst, length, take, drop, cond, arith}
+use Rattle.block_pool.specs.Chains.{IsChain, at, entries_of}
+use Rattle.block_pool.specs.Pool.{block_at}
+use Rattle.block_pool.proofs.PoolSteps.{chain_is, there_is, block_within, block_is, written_shows, written_filled, written_keeps}
 use Rattle.block_pool.proofs.pool.BlockPool.write.Goals as goal
 
--- src/pool.rt:152:21
 pub find-requires : goal.find-requires
-find-requires c = ?
+find-requires c = chain_is c.self.inside.links c.self.inside.region c.self.invariant c.args.self.now c.self.view_is (Some c.unwrap-head.result) (subst (IsChain c.args.self.now.chains) (sym c.head.ensures ∙ c.unwrap-head.ensures) c.requires.chain)
 
--- src/pool.rt:152:13
 pub unwrap-block-requires : goal.unwrap-block-requires
-unwrap-block-requires c = ?
+unwrap-block-requires c =
+    subst IsSome (sym c.find.ensures.block)
+    (there_is c.self.inside.links c.self.inside.region c.self.invariant c.args.self.now c.self.view_is (Some c.unwrap-head.result) c.args.position (subst (λ h. IsSome (at (entries_of c.args.self.now.chains h) c.args.position)) (sym c.head.ensures ∙ c.unwrap-head.ensures) c.requires.there))
 
--- src/pool.rt:153:9
 pub write-requires-clause-block : goal.write-requires-clause-block
-write-requires-clause-block c = ?
+write-requires-clause-block c =
+    block_within c.self.inside.links c.self.inside.region c.self.invariant c.args.self.now c.self.view_is c.find.ensures.valid (Some c.unwrap-head.result) c.args.position c.unwrap-block.result
+    (chain_is c.self.inside.links c.self.inside.region c.self.invariant c.args.self.now c.self.view_is (Some c.unwrap-head.result) (subst (IsChain c.args.self.now.chains) (sym c.head.ensures ∙ c.unwrap-head.ensures) c.requires.chain))
+    (sym c.find.ensures.block ∙ c.unwrap-block.ensures)
 
--- src/pool.rt:143:5
 pub invariant_of-self : goal.invariant_of-self
-invariant_of-self c = ?
+invariant_of-self c = written_filled c.self.inside.links c.self.inside.region c.self.invariant c.args.self.now c.self.view_is c.find.ensures.valid c.write.new.self c.unwrap-head.result c.unwrap-block.result c.args.position c.args.first c.args.from.now (subst (IsChain c.args.self.now.chains) (sym c.head.ensures ∙ c.unwrap-head.ensures) c.requires.chain) (sym c.find.ensures.block ∙ c.unwrap-block.ensures) c.requires.range c.write.ensures
 
--- src/pool.rt:143:5
 pub returns-clause-ok : goal.returns-clause-ok
-returns-clause-ok c = ?
+returns-clause-ok c = written_shows c.self.inside.links c.self.inside.region c.self.invariant c.args.self.now c.self.view_is c.find.ensures.valid c.write.new.self c.unwrap-head.result c.unwrap-block.result c.args.position c.args.first c.args.from.now (subst (IsChain c.args.self.now.chains) (sym c.head.ensures ∙ c.unwrap-head.ensures) c.requires.chain) (sym c.find.ensures.block ∙ c.unwrap-block.ensures) c.requires.range c.write.ensures c.args.chain.now (sym c.head.ensures ∙ c.unwrap-head.ensures)
 
--- src/pool.rt:143:5
 pub returns-clause-kept : goal.returns-clause-kept
-returns-clause-kept c = ?
+returns-clause-kept c = written_keeps c.self.inside.links c.self.inside.region c.self.invariant c.args.self.now c.self.view_is c.find.ensures.valid c.write.new.self c.unwrap-head.result c.unwrap-block.result c.args.position c.args.first c.args.from.now (subst (IsChain c.args.self.now.chains) (sym c.head.ensures ∙ c.unwrap-head.ensures) c.requires.chain) (sym c.find.ensures.block ∙ c.unwrap-block.ensures) c.requires.range c.write.ensures c.args.chain.now (sym c.head.ensures ∙ c.unwrap-head.ensures)
