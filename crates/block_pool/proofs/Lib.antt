@@ -12,3 +12,4 @@ pub mod RegionLaws
 pub mod PoolLaws
 pub mod Totals
 pub mod PoolSteps
+pub mod Taking

@@ -7,6 +7,8 @@ mod node;
 mod nodes;
 mod pool;
 mod region;
+#[cfg(test)]
+mod tests;
 
 pub use chain::Chain;
 pub use pool::BlockPool;

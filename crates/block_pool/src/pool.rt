@@ -72,7 +72,7 @@ impl BlockPool {
         requires chain { IsChain self.old.chains chain.old }
         requires absent { at (entries_of self.old.chains chain.old) position ≡ None }
         ensures full { result ≡ nat_lt 0 self.old.free }
-        ensures ok { OnTrue result (self.new ≡ spec.put_block self.old chain.old chain.new position) }
+        ensures ok { OnTrue result ((self.new ≡ spec.put_block self.old chain.old chain.new position) × IsSome chain.new) }
         ensures err { OnFalse result ((self.new ≡ self.old) × (chain.new ≡ chain.old)) }
         ensures kept { Keeps self.old.chains self.new.chains chain.old chain.new }
     {

@@ -35,7 +35,7 @@ pub invariant_of-self : goal.invariant_of-self
 invariant_of-self c = put_filled c.self.inside.links c.self.inside.region c.self.invariant c.args.self.now c.self.view_is c.free.ensures.valid c.claim-block.new.self c.link-head.new.self c.ready.new.self c.args.chain.now c.claim-block.result c.args.position c.link-head.result (put c)
 
 pub returns-clause-ok : goal.returns-clause-ok
-returns-clause-ok c = put_shows c.self.inside.links c.self.inside.region c.self.invariant c.args.self.now c.self.view_is c.free.ensures.valid c.claim-block.new.self c.link-head.new.self c.ready.new.self c.args.chain.now c.claim-block.result c.args.position c.link-head.result (put c) c.set_head.new.self c.set_head.ensures
+returns-clause-ok c = (put_shows c.self.inside.links c.self.inside.region c.self.invariant c.args.self.now c.self.view_is c.free.ensures.valid c.claim-block.new.self c.link-head.new.self c.ready.new.self c.args.chain.now c.claim-block.result c.args.position c.link-head.result (put c) c.set_head.new.self c.set_head.ensures, ap is_some c.set_head.ensures)
 
 pub returns-clause-kept : goal.returns-clause-kept
 returns-clause-kept c = put_keeps c.self.inside.links c.self.inside.region c.self.invariant c.args.self.now c.self.view_is c.free.ensures.valid c.claim-block.new.self c.link-head.new.self c.ready.new.self c.args.chain.now c.claim-block.result c.args.position c.link-head.result (put c) c.set_head.new.self c.set_head.ensures
