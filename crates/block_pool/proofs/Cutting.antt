@@ -10,7 +10,7 @@ use Rattle.block_pool.proofs.Walks.{walk_parts, walk_end, Has-step, walk_kept, w
 
 -- the chain keeps so many blocks, of which the last is at the place, and loses one and so many more
 module _ (nodes : List Node) (first freed head place kept m : ℕ) (l : IsLinked nodes first freed) (there : (node_at nodes head).count ≡ kept + suc m)
-  (upto : (k : ℕ) → kept ≡ suc k → place ≡ step nodes k head) where
+    (upto : (k : ℕ) → kept ≡ suc k → place ≡ step nodes k head) where
   abbrev tail : ℕ
   tail = step nodes kept head
 
@@ -67,10 +67,10 @@ module _ (nodes : List Node) (first freed head place kept m : ℕ) (l : IsLinked
       let final_within = l.within head final final_in_chain in
       let goes_on : step n1 (suc m) tail ≡ first = step_next n1 m tail ∙ ap (λ b. (node_at n1 b).next) (ended.1 ∙ sym final_is) ∙ ap (λ n. n.next) (node_at-same nodes final v final_within) in
       walk_other (suc m + freed) tail
-          ∙ walk_parts n1 (suc m) freed (suc m + freed) tail refl
-          ∙ ap (λ bs. bs ++ walk n1 freed (step n1 (suc m) tail)) ended.0
-          ∙ ap (λ b. walk nodes (suc m) tail ++ walk n1 freed b) goes_on
-          ∙ ap (λ bs. walk nodes (suc m) tail ++ bs) (walk_missed nodes final v freed first (λ h. l.not_freed head final h final_in_chain))
+      ∙ walk_parts n1 (suc m) freed (suc m + freed) tail refl
+      ∙ ap (λ bs. bs ++ walk n1 freed (step n1 (suc m) tail)) ended.0
+      ∙ ap (λ b. walk nodes (suc m) tail ++ walk n1 freed b) goes_on
+      ∙ ap (λ bs. walk nodes (suc m) tail ++ bs) (walk_missed nodes final v freed first (λ h. l.not_freed head final h final_in_chain))
 
   positions : (b : ℕ) → (node_at other b).position ≡ (node_at nodes b).position
   positions b = part_kept (λ n. n.position) n1 head (record (node_at n1 head) { count = kept; last = place }) refl b ∙ part_kept (λ n. n.position) nodes final (record (node_at nodes final) { next = first }) refl b

@@ -26,12 +26,12 @@ Relinks-before nodes first freed head block position k l loose there lt =
     let old_here : node_at other head ≡ w = node_at-same n1 head w within in
     let same_walk = λ (j b : ℕ) (miss : ¬ (Has block (walk nodes j b))). walk_kept n1 head w next_kept j b ∙ walk_missed nodes block v j b miss in
     let blocks : blocks_at other block ≡ block ∷ blocks_at nodes head =
-            ap (λ n. walk other n.count block) new_here ∙ ap (λ n. walk other n block) (plus_one f.count)
-            ∙ ap (λ b. block ∷ walk other f.count b) (ap (λ n. n.next) new_here)
-            ∙ ap (λ bs. block ∷ bs) (same_walk f.count head (loose.in_no_chain head)) in
+    ap (λ n. walk other n.count block) new_here ∙ ap (λ n. walk other n block) (plus_one f.count)
+    ∙ ap (λ b. block ∷ walk other f.count b) (ap (λ n. n.next) new_here)
+    ∙ ap (λ bs. block ∷ bs) (same_walk f.count head (loose.in_no_chain head)) in
     let chain : chain_at other block ≡ (position, block) ∷ chain_at nodes head =
-            ap (placed other) blocks ∙ ap (λ n. (n.position, block) ∷ placed other (blocks_at nodes head)) new_here
-            ∙ ap (λ es. (position, block) ∷ es) (placed_same nodes other (blocks_at nodes head) (λ b h. positions n1 w b head_stays (λ p. loose.in_no_chain head (subst (λ c. Has c (blocks_at nodes head)) p h)))) in
+    ap (placed other) blocks ∙ ap (λ n. (n.position, block) ∷ placed other (blocks_at nodes head)) new_here
+    ∙ ap (λ es. (position, block) ∷ es) (placed_same nodes other (blocks_at nodes head) (λ b h. positions n1 w b head_stays (λ p. loose.in_no_chain head (subst (λ c. Has c (blocks_at nodes head)) p h)))) in
     let above : AllAbove position (chain_at nodes head) = all_above f.count there (l.rising head) in
     record {
       len = length-set n1 head w ∙ length-set nodes block v;
@@ -70,8 +70,8 @@ Relinks-before nodes first freed head block position k l loose there lt =
 -- ---- behind a block
 -- the block goes behind the one so many steps from the first, before which there are so many more
 module _ (nodes : List Node) (first freed head block position k m : ℕ) (l : IsLinked nodes first freed) (loose : IsLoose nodes first freed block)
-  (there : (node_at nodes head).count ≡ suc k + m) (lower : (node_at nodes (step nodes k head)).position < position)
-  (higher : 0 < m → position < (node_at nodes (step nodes (suc k) head)).position) where
+    (there : (node_at nodes head).count ≡ suc k + m) (lower : (node_at nodes (step nodes k head)).position < position)
+    (higher : 0 < m → position < (node_at nodes (step nodes (suc k) head)).position) where
   abbrev place : ℕ
   place = step nodes k head
 

@@ -51,9 +51,9 @@ headed head (e ∷ es) n = refl
 all_below : {nodes : List Node} (head position place kept : ℕ) → IsWithin nodes head → IsPlace nodes head position place kept → kept ≡ (node_at nodes head).count → below (chain_at nodes head) position ≡ chain_at nodes head
 all_below {nodes = nodes} head position place kept w p all =
     let e : chain_at nodes head ≡ placed nodes (walk nodes (kept - 1) head) ++ ((node_at nodes place).position, place) ∷ [] =
-            ap (λ n. placed nodes (walk nodes n head)) (let s : (node_at nodes head).count ≡ suc (kept - 1) = omega (arith, p.some) in s)
-            ∙ ap (placed nodes) (walk_end nodes (kept - 1) head) ∙ placed-append nodes (walk nodes (kept - 1) head) (step nodes (kept - 1) head ∷ [])
-            ∙ ap (λ b. placed nodes (walk nodes (kept - 1) head) ++ ((node_at nodes b).position, b) ∷ []) (sym p.at) in
+    ap (λ n. placed nodes (walk nodes n head)) (let s : (node_at nodes head).count ≡ suc (kept - 1) = omega (arith, p.some) in s)
+    ∙ ap (placed nodes) (walk_end nodes (kept - 1) head) ∙ placed-append nodes (walk nodes (kept - 1) head) (step nodes (kept - 1) head ∷ [])
+    ∙ ap (λ b. placed nodes (walk nodes (kept - 1) head) ++ ((node_at nodes b).position, b) ∷ []) (sym p.at) in
     let xs = chain_at nodes head in
     ap (λ es. below es position) (sym (append-nil xs))
     ∙ below_between xs [] position (subst (AllBelow position) (sym e) (AllBelow-upto position (placed nodes (walk nodes (kept - 1) head)) ((node_at nodes place).position, place) (subst Rises e w.rising) p.lower)) tt
@@ -211,21 +211,23 @@ module _ {nodes : List Node} {first freed blocks capacity : ℕ} (h : IsHeld nod
 
     pub gone_cut : (result : List Node) → result ≡ after → kept ≡ 0 → (all_chains result ≡ replaced v.chains (Some head) None left) × (None ≡ head_of head left)
     gone_cut result e z =
-        let empty : left ≡ [] = kept_entries ∙ ap (λ n. placed nodes (walk nodes n head)) z in
-        (ap all_chains e
-        ∙ subst (λ w. all_chains after ≡ replaced w.chains (Some head) None []) is
-        (all_chains-gone nodes after head (cut_elsewhere nodes first freed head place kept more h.linked there cut.upto) (chain_after ∙ ap (λ n. placed nodes (walk nodes n head)) z)),
-        ap (head_of head) (sym empty))
+        let empty : left ≡ [] = kept_entries ∙ ap (λ n. placed nodes (walk nodes n head)) z in (
+          ap all_chains e
+              ∙ subst (λ w. all_chains after ≡ replaced w.chains (Some head) None []) is
+              (all_chains-gone nodes after head (cut_elsewhere nodes first freed head place kept more h.linked there cut.upto) (chain_after ∙ ap (λ n. placed nodes (walk nodes n head)) z)),
+          ap (head_of head) (sym empty),
+        )
 
     pub some_cut : (result : List Node) (k : ℕ) → result ≡ after → kept ≡ suc k → (all_chains result ≡ replaced v.chains (Some head) (Some head) left) × (Some head ≡ head_of head left)
     some_cut result k e s =
         let es = placed nodes (walk nodes k (node_at nodes head).next) in
-        let here : left ≡ ((node_at nodes head).position, head) ∷ es = kept_entries ∙ ap (λ n. placed nodes (walk nodes n head)) s in
-        (ap all_chains e
-        ∙ subst (λ w. all_chains after ≡ replaced w.chains (Some head) (Some head) (((node_at nodes head).position, head) ∷ es)) is
-        (all_chains-cut nodes after head ((node_at nodes head).position, head) es (cut_elsewhere nodes first freed head place kept more h.linked there cut.upto) (chain_after ∙ ap (λ n. placed nodes (walk nodes n head)) s))
-        ∙ ap (λ fs. replaced v.chains (Some head) (Some head) fs) (sym here),
-        ap (head_of head) (sym here))
+        let here : left ≡ ((node_at nodes head).position, head) ∷ es = kept_entries ∙ ap (λ n. placed nodes (walk nodes n head)) s in (
+          ap all_chains e
+              ∙ subst (λ w. all_chains after ≡ replaced w.chains (Some head) (Some head) (((node_at nodes head).position, head) ∷ es)) is
+              (all_chains-cut nodes after head ((node_at nodes head).position, head) es (cut_elsewhere nodes first freed head place kept more h.linked there cut.upto) (chain_after ∙ ap (λ n. placed nodes (walk nodes n head)) s))
+              ∙ ap (λ fs. replaced v.chains (Some head) (Some head) fs) (sym here),
+          ap (head_of head) (sym here),
+        )
 
   -- ---- where the whole chain is cut, where a part of it, and where none
   pub IsCut-whole : (head position : ℕ) → IsSome (fin.get v.chains head) → position ≤ (node_at nodes head).position → IsCut head position head 0
@@ -255,7 +257,8 @@ module _ {nodes : List Node} {first freed blocks capacity : ℕ} (h : IsHeld nod
       × (below (entries_of v.chains (Some head)) position ≡ entries_of v.chains (Some head))
   uncut head position place kept some p all =
       let es = entries_of v.chains (Some head) in
-      let whole_below : below es position ≡ es = ap (λ fs. below fs position) (sym (entries_are head)) ∙ all_below head position place kept (whole head some) p all ∙ entries_are head in
-      (replaced_same v.chains head some ∙ ap (λ fs. replaced v.chains (Some head) (Some head) fs) (sym whole_below),
-      headed head es (first_entry v.chains head some (subst (λ w. (n : ℕ) (fs : Entries ℕ) → fin.get w.chains n ≡ Some fs → fs ≢ []) is (never_empty nodes))) ∙ ap (head_of head) (sym whole_below),
-      whole_below)
+      let whole_below : below es position ≡ es = ap (λ fs. below fs position) (sym (entries_are head)) ∙ all_below head position place kept (whole head some) p all ∙ entries_are head in (
+        replaced_same v.chains head some ∙ ap (λ fs. replaced v.chains (Some head) (Some head) fs) (sym whole_below),
+        headed head es (first_entry v.chains head some (subst (λ w. (n : ℕ) (fs : Entries ℕ) → fin.get w.chains n ≡ Some fs → fs ≢ []) is (never_empty nodes))) ∙ ap (head_of head) (sym whole_below),
+        whole_below,
+      )

@@ -127,7 +127,7 @@ length-once (suc n) xs o within = at_most n xs o within (has_or_not n xs) (lengt
         → ((ys : List ℕ) → Once ys → ((b : ℕ) → Has b ys → b < n) → length ys ≤ n) → length xs ≤ suc n
     at_most n xs o within (inl h) more =
         let fewer : length (minus n xs) ≤ n = more (minus n xs) (Once-minus n xs o)
-            (λ b k. let p = Has-minus n b xs o k in let q = within b p.0 in let r : b ≢ n = p.1 in omega arith) in
+        (λ b k. let p = Has-minus n b xs o k in let q = within b p.0 in let r : b ≢ n = p.1 in omega arith) in
         omega (arith, length-minus n xs h)
     at_most n xs o within (inr none) more =
         let fewer : length xs ≤ n = more xs o (λ b k. let q = within b k in let r : b ≢ n = (λ p. none (subst (λ m. Has m xs) p k)) in omega arith) in

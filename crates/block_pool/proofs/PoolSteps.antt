@@ -223,7 +223,7 @@ module _ (l : LinkState) (r : RegionBytes) (fill : IsFilled l r) (v : Pool) (is 
     pub less_shows : (was now : Option ℕ) → was ≡ Some head → now ≡ left → pool_of cut r ≡ cut_chain v was now position
     less_shows was now e f =
         let free_is : free_of cut ≡ (v.free + length (entries_of v.chains (Some head))) - length (below (entries_of v.chains (Some head)) position) =
-                (let g = less.free in let h : free_of l ≡ v.free = ap (λ p. p.free) is in let a = length-kept in let b = length-all in omega arith) in
+        (let g = less.free in let h : free_of l ≡ v.free = ap (λ p. p.free) is in let a = length-kept in let b = length-all in omega arith) in
         same_pool _ _ _ _ _ _ less_chains free_is (less.blocks ∙ ap (λ p. p.blocks) is)
         ∙ ap (λ n. cut_chain v (Some head) n position) (sym f) ∙ ap (λ h. cut_chain v h now position) (sym e)
 
@@ -277,8 +277,8 @@ module _ (l : LinkState) (r : RegionBytes) (fill : IsFilled l r) (v : Pool) (is 
 
   -- ---- bytes are written into a block
   module _ (valid : IsValid l) (written : RegionBytes) (head : ℕ) (block position first : ℕ) (bytes : List ℕ) (own : IsChain v.chains (Some head))
-    (there : at (entries_of l.chains (Some head)) position ≡ Some block) (fits : first + length bytes ≤ 65536)
-    (is_written : written ≡ record r { blocks = set r.blocks block (overwritten (get_or r.blocks block []) first bytes) }) where
+      (there : at (entries_of l.chains (Some head)) position ≡ Some block) (fits : first + length bytes ≤ 65536)
+      (is_written : written ≡ record r { blocks = set r.blocks block (overwritten (get_or r.blocks block []) first bytes) }) where
     abbrev other : List ℕ
     other = overwritten (get_or r.blocks block []) first bytes
 
@@ -336,6 +336,7 @@ module _ (l : LinkState) (r : RegionBytes) (fill : IsFilled l r) (v : Pool) (is 
   IsPool-filled valid = subst IsPool is (record {
     rising = λ q fs e. let x = shown q fs e in subst Rises x.2 (rises_filled x.0 (valid.rising q x.0 x.1));
     sized = λ q fs e. let x = shown q fs e in subst AllSized x.2 (all_sized x.0 (λ b h. subst (λ n. b < n) (sym fill.used) (valid.within q b x.0 x.1 h)));
+    some = λ q fs e n. let x = shown q fs e in no_blocks x.0 q (valid.headed q x.0 x.1) (x.2 ∙ n);
     heads = λ q s. below_blocks valid (Some q) (some_mapped (filled r.blocks) (fin.get l.chains q) (subst (λ o. IsSome o) (get-with_bytes r.blocks l.chains q) s));
     all = ap (λ n. free_of l + n) (total_filled l.blocks) ∙ fill.all;
   })
@@ -349,6 +350,10 @@ module _ (l : LinkState) (r : RegionBytes) (fill : IsFilled l r) (v : Pool) (is 
           given : (o : Option (Entries ℕ)) → fin.get l.chains q ≡ o → option_map (filled r.blocks) o ≡ Some fs → (es : Entries ℕ) × (fin.get l.chains q ≡ Some es) × (filled r.blocks es ≡ fs)
           given None f e = absurd (let g : None ≡ Some fs = e in cc)
           given (Some es) f e = (es, f, same es e)
+
+      no_blocks : (es : Entries ℕ) (q : ℕ) → Has q (blocks_of es) → filled r.blocks es ≡ [] → ⊥
+      no_blocks [] q h e = h
+      no_blocks (x ∷ es) q h e = cc
 
       above_filled : (p : ℕ) (es : Entries ℕ) → AllAbove p es → AllAbove p (filled r.blocks es)
       above_filled p [] a = tt

@@ -58,4 +58,3 @@ module _ (size used limit : ℕ) (bytes : List ℕ) (full : length bytes ≡ use
       ∙ parts_overwritten size used block 0 bytes (zeros size) lt full (omega arith)
       ∙ ap (set (parts size used bytes) block) (whole_overwritten (get_or (parts size used bytes) block []) (zeros size) (length-part size used block bytes lt full ∙ sym zero_len))
       ∙ sym (ap (λ t. cond t (parts size used bytes ++ zeros size ∷ []) (set (parts size used bytes) block (zeros size))) (ne_eqb block (length (parts size used bytes)) (λ p. apart (p ∙ length-parts size used bytes))))))
-

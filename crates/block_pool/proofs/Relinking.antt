@@ -22,7 +22,7 @@ pub record Relinks (nodes other : List Node) (first freed old new block position
   pub last_others : (q : ℕ) → q ≢ new → (node_at other q).last ≡ (node_at nodes q).last
 
 module _ (nodes other : List Node) (first freed old new block position : ℕ) (l : IsLinked nodes first freed) (loose : IsLoose nodes first freed block)
-  (r : Relinks nodes other first freed old new block position) where
+    (r : Relinks nodes other first freed old new block position) where
   -- a block of another chain, where the old head is another one, was there
   was : (q b : ℕ) → q ≢ new → Has b (blocks_at other q) → Has b (blocks_at nodes q) × (q ≢ old)
   was q b n h = from_either

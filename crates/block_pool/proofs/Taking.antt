@@ -33,12 +33,14 @@ pub record IsTaken (was now : Pool) (chain : Option ℕ) (count : ℕ) : Type 0 
   pub pool : now ≡ take_chain was chain count
   pub entries : entries_of now.chains chain ≡ zero_blocks 0 count
   pub kept : Keeps was.chains now.chains None chain
+  pub some : is_some chain ≡ nat_lt 0 count
 
 pub IsTaken-none : (was : Pool) → IsTaken was was None 0
 IsTaken-none was = record {
   pool = ap (λ n. record was { free = n }) (let e : was.free ≡ was.free - 0 = omega arith in e);
   entries = refl;
   kept = record { others = λ q s d. refl; apart = λ q s d. d; chain = tt };
+  some = refl;
 }
 
 pub taken_absent : (was now : Pool) (chain : Option ℕ) (count : ℕ) → IsTaken was now chain count → at (entries_of now.chains chain) count ≡ None
@@ -69,6 +71,7 @@ IsTaken-more was now next chain new count t put some kept = record {
     apart = λ q s d. kept.apart q (subst IsSome (sym (t.kept.others q s d)) s) (t.kept.apart q s d);
     chain = kept.chain;
   };
+  some = some ∙ sym (lt-ltb 0 (count + 1) (omega arith));
 }
   where
     chains_are : replaced now.chains chain new (inserted (entries_of now.chains chain) count (zeros 65536)) ≡ with_chain was.chains new (zero_blocks 0 (count + 1))

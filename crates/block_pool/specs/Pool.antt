@@ -84,10 +84,11 @@ abbrev pub total : {V : Type 0} → ChainMap V → ℕ → ℕ
 total chains zero = 0
 total chains (suc head) = total chains head + length (entries_of chains (Some head))
 
--- positions rise, each block has 65,536 bytes, and free blocks and those of all chains are all there are
+-- A chain that is there has blocks, at rising positions, each of 65,536 bytes; free blocks and those of all chains are all there are
 pub record IsPool (pool : Pool) : Type 0 where
   pub rising : (head : ℕ) (entries : Entries (List ℕ)) → fin.get pool.chains head ≡ Some entries → Rises entries
   pub sized : (head : ℕ) (entries : Entries (List ℕ)) → fin.get pool.chains head ≡ Some entries → AllSized entries
+  pub some : (head : ℕ) (entries : Entries (List ℕ)) → fin.get pool.chains head ≡ Some entries → entries ≢ []
   pub heads : (head : ℕ) → IsSome (fin.get pool.chains head) → head < pool.blocks
   pub all : pool.free + total pool.chains pool.blocks ≡ pool.blocks
 

@@ -4,7 +4,9 @@ ghost use Rattle.block_pool.specs.Chains.{at, below, inserted, entries_of, repla
 ghost use Rattle.block_pool.specs.Links.{IsFree, IsValid, free_of};
 
 use crate::node::Node;
-use crate::nodes::{Place, add_node, begin, block_at, cut_behind, node_of, place_below, put_before, put_behind};
+use crate::nodes::{
+    Place, add_node, begin, block_at, cut_behind, node_of, place_below, put_before, put_behind,
+};
 use io_ports::NoMemory;
 use std::alloc::Global;
 use std::marker::Model;

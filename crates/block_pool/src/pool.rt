@@ -115,6 +115,7 @@ impl BlockPool {
     pub fn take(&mut self, count: u64) -> Option<Chain>
         ensures full { is_some result ≡ nat_le count self.old.free }
         ensures ok { IfSome result (λ chain. (self.new ≡ spec.take_chain self.old chain count) × Keeps self.old.chains self.new.chains None chain) }
+        ensures head { IfSome result (λ chain. is_some chain ≡ nat_lt 0 count) }
         ensures err { IfNone result (self.new ≡ self.old) }
     {
         if self.free() < count {

@@ -1,8 +1,7 @@
+ghost use Rattle.block_pool.specs.Chains.{IsChain};
+
 use crate::{BlockPool, Chain};
 use std::test::Fail;
-
-ghost use Rattle.std.specs.Prelude.{◌≡◌, ◌≤◌, None, Some, IsSome, ◌+◌, length, nat_lt};
-ghost use Rattle.block_pool.specs.Chains.{at, entries_of, IsChain};
 
 /// Gives a chain a block, where it has none at the position.
 fn insert(pool: &mut BlockPool, chain: &mut Chain, position: u64) -> Option<bool>
@@ -28,14 +27,14 @@ fn byte_at(pool: &BlockPool, chain: &Chain, position: u64, first: u64) -> Option
 }
 
 /// Writes a byte into a block, where the chain has it.
-fn put_byte(pool: &mut BlockPool, chain: &mut Chain, position: u64, first: u64, byte: u8) -> bool
+fn put_byte(pool: &mut BlockPool, chain: &mut Chain, position: u64, first: u64) -> bool
     requires { IsChain pool.old.chains chain.old }
     ensures { IsChain pool.new.chains chain.new }
 {
     if first >= 65_536 || !pool.holds(chain, position) {
         return false;
     }
-    pool.write(chain, position, first, &[byte]);
+    pool.write(chain, position, first, &[9]);
     true
 }
 
@@ -53,5 +52,18 @@ fn three_blocks_are_taken_and_cut(rt: HostRuntime) -> Result<(), Fail> {
     assert_eq!(rt; byte_at(&pool, &chain, 1, 0), None);
     pool.give(chain);
     assert_eq!(rt; pool.free(), 3);
+    Ok(())
+}
+
+#[test]
+fn a_block_given_back_is_zeros_again(rt: HostRuntime) -> Result<(), Fail> {
+    let mut pool = BlockPool::new(rt.alloc(), 1)?;
+    let mut chain = pool.take(1).ok_or("one block")?;
+    assert!(rt; put_byte(&mut pool, &mut chain, 0, 100));
+    assert_eq!(rt; byte_at(&pool, &chain, 0, 100), Some(9));
+    pool.give(chain);
+    let mut next = pool.take(0).ok_or("no block")?;
+    assert_eq!(rt; insert(&mut pool, &mut next, 7), Some(true));
+    assert_eq!(rt; byte_at(&pool, &next, 7, 100), Some(0));
     Ok(())
 }

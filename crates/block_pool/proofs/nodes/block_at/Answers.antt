@@ -25,6 +25,6 @@ loop-steps-preserved c =
     let nodes = c.args.nodes.now.items in
     let here : (node_at nodes c.loop-steps.block).next ≡ c.node_of-node.result.next = ap (λ (n : Node). n.next) (sym c.node_of-node.ensures) in
     let more = left_more nodes c.args.head c.requires c.args.position c.loop-steps.steps c.loop-steps.block
-        (subst (λ (n : Node). c.loop-steps.steps < n.count) c.node_of-first.ensures c.loop-steps-test.true)
-        c.loop-steps.invariant (λ e. c.if-node-position.false (ap (λ (n : Node). n.position) c.node_of-node.ensures ∙ e)) in
+    (subst (λ (n : Node). c.loop-steps.steps < n.count) c.node_of-first.ensures c.loop-steps-test.true)
+    c.loop-steps.invariant (λ e. c.if-node-position.false (ap (λ (n : Node). n.position) c.node_of-node.ensures ∙ e)) in
     subst (Left nodes c.args.head c.requires c.args.position (c.loop-steps.steps + 1)) here more

@@ -31,6 +31,7 @@ pub loop-kept-preserved : goal.loop-kept-preserved
 loop-kept-preserved c =
     let nodes = c.args.nodes.now.items in
     let next = next_is nodes c.args.head c.requires.chain c.loop-kept.kept c.loop-kept.block c.loop-kept.auto.kept c.loop-kept.invariant.0 in
-    let same : c.loop-kept.kept ≡ c.loop-kept.kept + 1 - 1 = omega arith in
-    (ap (λ (n : Node). n.next) c.node_of-next.ensures ∙ next ∙ ap (λ n. step nodes n c.args.head) same,
-    subst (λ (n : Node). n.position < c.args.position) c.node_of-in-loop-kept.ensures c.if-position-node_of.false)
+    let same : c.loop-kept.kept ≡ c.loop-kept.kept + 1 - 1 = omega arith in (
+      ap (λ (n : Node). n.next) c.node_of-next.ensures ∙ next ∙ ap (λ n. step nodes n c.args.head) same,
+      subst (λ (n : Node). n.position < c.args.position) c.node_of-in-loop-kept.ensures c.if-position-node_of.false,
+    )

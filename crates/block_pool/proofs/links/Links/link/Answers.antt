@@ -50,7 +50,7 @@ place_below-place-requires-clause-chain c = whole c.self.invariant c.args.self.n
 pub place_below-place-requires-clause-first : goal.place_below-place-requires-clause-first
 place_below-place-requires-clause-first c =
     let apart = not_first c.self.invariant c.args.self.now c.self.view_is c.in-Some.head c.args.position (subst (λ q. IsChain c.args.self.now.chains q) c.in-Some.is c.requires.chain)
-        (subst (λ q. at (entries_of c.args.self.now.chains q) c.args.position ≡ None) c.in-Some.is c.requires.absent) in
+    (subst (λ q. at (entries_of c.args.self.now.chains q) c.args.position ≡ None) c.in-Some.is c.requires.absent) in
     let le = c.if-position-node_of.false in
     omega (arith, subst (λ (n : Node). n.position ≤ c.args.position) c.node_of.ensures c.if-position-node_of.false)
 
