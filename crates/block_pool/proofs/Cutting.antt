@@ -1,9 +1,9 @@
 -- The blocks of a chain from one place on are cut off and go before the freed ones.
-use Rattle.std.proofs.Common.{◌≡◌, ◌≢◌, ℕ, zero, suc, ◌+◌, ◌<◌, ◌≤◌, List, [], ◌∷◌, ◌++◌, ◌⊎◌, inl, inr, refl, sym, ap, subst, ◌∙◌, length, set, arith, append_assoc}
+use Rattle.std.proofs.Common.{◌≡◌, ◌≢◌, ℕ, zero, suc, ◌+◌, ◌<◌, ◌≤◌, List, [], ◌∷◌, ◌++◌, ◌⊎◌, inl, refl, sym, ap, subst, ◌∙◌, length, arith, append_assoc}
 use Rattle.std.proofs.lemmas.Bool.{cases_eq}
 use Rattle.std.proofs.lemmas.List.{length-set, same_from_push}
-use Rattle.block_pool.specs.Chains.{Entries, AllAbove, Rises, below}
-use Rattle.block_pool.specs.Nodes.{node_at, walk, step, blocks_at, placed, chain_at, Has, Once, IsLinked, joined, bounded, cut_behind}
+use Rattle.block_pool.specs.Chains.{Rises, below}
+use Rattle.block_pool.specs.Nodes.{node_at, walk, step, blocks_at, placed, chain_at, Has, Once, IsLinked, joined, cut_behind}
 use Rattle.block_pool.specs.declared.node.Node.{Node}
 use Rattle.block_pool.proofs.Lists.{from_either, Has-left, Has-right, Has-append, Once-append, Once-apart, Once-right, AllBelow, AllBelow-upto, AllFrom, AllFrom-above, Rises-left, Rises-right, below_between}
 use Rattle.block_pool.proofs.Walks.{walk_parts, walk_end, Has-step, walk_kept, walk_missed, walk_ended, node_at-same, node_at-other, part_kept, placed_same, placed-append, Once-rising, step_next}

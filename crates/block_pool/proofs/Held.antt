@@ -1,17 +1,16 @@
 -- From the nodes to what the links show, and back.
-use Rattle.std.proofs.Common.{◌≡◌, ◌≢◌, ℕ, zero, suc, ◌+◌, ◌-◌, ◌<◌, ◌≤◌, List, [], ◌∷◌, ◌++◌, ◌⊎◌, inl, inr, Option, None, Some, IsSome, is_some, refl, sym, ap, subst, ◌∙◌, length, map, arith, length-append}
+use Rattle.std.proofs.Common.{◌≡◌, ◌≢◌, ℕ, zero, suc, ◌+◌, ◌-◌, ◌<◌, ◌≤◌, List, [], ◌∷◌, ◌++◌, ◌⊎◌, inl, inr, None, Some, IsSome, is_some, refl, sym, ap, subst, ◌∙◌, length, arith, length-append}
 use Rattle.std.proofs.lemmas.Bool.{cases_eq, false≢true}
 use Rattle.std.specs.FinMap as fin
-use Rattle.block_pool.specs.Chains.{Entries, ChainMap, Rises, AllAbove, at, below, inserted, entries_of, replaced, head_of, IsChain}
-use Rattle.block_pool.specs.Links.{LinkState, link_state, free_of, blocks_of, IsFree, IsValid, IsHeld}
-use Rattle.block_pool.specs.Nodes.{no_node, node_at, walk, step, blocks_at, placed, chain_at, all_chains, Has, Once, IsLinked, IsLoose, IsPlace, IsWithin, begun, put_before, put_behind, cut_behind}
+use Rattle.block_pool.specs.Chains.{Entries, ChainMap, Rises, at, inserted, entries_of, replaced}
+use Rattle.block_pool.specs.Links.{LinkState, link_state, blocks_of, IsFree, IsValid, IsHeld}
+use Rattle.block_pool.specs.Nodes.{no_node, node_at, walk, step, blocks_at, placed, chain_at, all_chains, Has, Once, IsLinked, IsLoose, IsPlace, IsWithin, begun, put_behind}
 use Rattle.block_pool.specs.declared.node.Node.{Node}
-use Rattle.block_pool.proofs.Lists.{length-once, AllBelow, AllBelow-upto, below_between}
-use Rattle.block_pool.proofs.Walks.{walk_parts, walk_end, step_next, Has-step, Has-head, length-walk, Once-rising, walk_same, node_at-fresh, placed_same}
+use Rattle.block_pool.proofs.Lists.{length-once}
+use Rattle.block_pool.proofs.Walks.{walk_end, Has-step, Has-head, length-walk, Once-rising, walk_same, node_at-fresh, placed_same}
 use Rattle.block_pool.proofs.Relinking.{Relinks, IsLinked-relinked, Relinks-begun}
-use Rattle.block_pool.proofs.Inserting.{Relinks-before, Relinks-behind}
-use Rattle.block_pool.proofs.Cutting.{IsLinked-cut, cut_freed, cut_chain, cut_elsewhere, cut_entries, length-cut}
-use Rattle.block_pool.proofs.Maps.{found, entries_found, nonempty, same_numbers, all_chains-relinked, all_chains-begun, all_chains-cut, all_chains-gone}
+use Rattle.block_pool.proofs.Inserting.{Relinks-behind}
+use Rattle.block_pool.proofs.Maps.{found, entries_found, nonempty, same_numbers, all_chains-relinked, all_chains-begun}
 use Rattle.block_pool.proofs.Searching.{at_here, at_later}
 
 -- ---- what is found is a chain of the nodes

@@ -1,12 +1,12 @@
 -- A block goes before the first one of a chain, or behind one of its blocks.
-use Rattle.std.proofs.Common.{◌≡◌, ◌≢◌, ℕ, zero, suc, ◌+◌, ◌<◌, ◌≤◌, List, [], ◌∷◌, ◌++◌, ◌⊎◌, inl, inr, refl, sym, ap, subst, ◌∙◌, length, set, map, cond, true, false, nat_eq, arith, append_assoc}
-use Rattle.std.proofs.lemmas.Bool.{cases_eq, cases_lt, eq-eqb, ne_eqb}
+use Rattle.std.proofs.Common.{◌≡◌, ◌≢◌, ℕ, zero, suc, ◌+◌, ◌<◌, List, [], ◌∷◌, ◌++◌, ◌⊎◌, inl, refl, sym, ap, subst, ◌∙◌, length, set, cond, nat_eq, arith, append_assoc}
+use Rattle.std.proofs.lemmas.Bool.{eq-eqb, ne_eqb}
 use Rattle.std.proofs.lemmas.List.{length-set, same_from_push}
-use Rattle.block_pool.specs.Chains.{Entries, AllAbove, Rises, inserted}
-use Rattle.block_pool.specs.Nodes.{no_node, node_at, walk, step, blocks_at, placed, chain_at, Has, Once, IsLinked, IsLoose, put_before, pointed, joined, bounded, put_behind}
+use Rattle.block_pool.specs.Chains.{AllAbove, Rises, inserted}
+use Rattle.block_pool.specs.Nodes.{node_at, walk, step, blocks_at, placed, chain_at, Has, Once, IsLinked, IsLoose, put_before, pointed, joined, put_behind}
 use Rattle.block_pool.specs.declared.node.Node.{Node}
-use Rattle.block_pool.proofs.Lists.{from_either, Has-left, Has-right, Has-inside, Once-apart, Once-left, Once-right, AllBelow, AllBelow-upto, AllAbove-lower, Rises-left, Rises-right, inserted_between, Rises-between}
-use Rattle.block_pool.proofs.Walks.{walk_parts, walk_end, Has-step, Has-head, walk_kept, step_kept, walk_missed, walk_ended, node_at-same, node_at-other, part_kept, placed_same, placed-append, Once-rising, step_next}
+use Rattle.block_pool.proofs.Lists.{Has-left, Has-right, Has-inside, Once-apart, Once-left, AllBelow, AllBelow-upto, AllAbove-lower, Rises-left, Rises-right, inserted_between, Rises-between}
+use Rattle.block_pool.proofs.Walks.{walk_parts, walk_end, Has-step, Has-head, walk_kept, walk_missed, walk_ended, node_at-same, node_at-other, part_kept, placed_same, placed-append, Once-rising, step_next}
 use Rattle.block_pool.proofs.Relinking.{Relinks}
 
 -- ---- before the first block

@@ -1,20 +1,19 @@
 -- What each call of the links leaves, for links that show a value.
-use Rattle.std.proofs.Common.{◌≡◌, ◌≢◌, ℕ, zero, suc, ◌+◌, ◌-◌, ◌<◌, ◌≤◌, ◌^◌, Bool, true, false, cond, List, [], ◌∷◌, ◌++◌, ◌⊎◌, inl, inr, Option, None, Some, IsSome, is_some, refl, sym, ap, subst, ◌∙◌, length, map, nat_eq, arith, length-append}
-use Rattle.std.proofs.lemmas.Bool.{cases_eq, false≢true, eq-eqb, ne_eqb}
+use Rattle.std.proofs.Common.{◌≡◌, ◌≢◌, ℕ, suc, ◌+◌, ◌-◌, ◌<◌, ◌≤◌, cond, List, [], ◌∷◌, ◌++◌, Option, None, Some, IsSome, refl, sym, ap, subst, ◌∙◌, length, nat_eq, arith}
+use Rattle.std.proofs.lemmas.Bool.{cases_eq, false≢true, ne_eqb}
 use Rattle.std.proofs.lemmas.List.{length-map, append-nil}
 use Rattle.std.specs.FinMap as fin
 use Rattle.std.specs.Option.{unwrap_or}
-use Rattle.block_pool.specs.Chains.{Entries, ChainMap, Rises, at, below, inserted, entries_of, replaced, head_of, IsChain}
-use Rattle.block_pool.specs.Links.{LinkState, link_state, free_of, blocks_of, IsFree, IsValid, IsHeld}
-use Rattle.block_pool.specs.Nodes.{no_node, node_at, walk, step, blocks_at, placed, chain_at, all_chains, Has, Once, IsLinked, IsLoose, IsPlace, IsWithin, begun, put_before, put_behind, cut_behind}
+use Rattle.block_pool.specs.Chains.{Entries, ChainMap, Rises, at, below, inserted, entries_of, replaced, head_of}
+use Rattle.block_pool.specs.Links.{LinkState, link_state, free_of, IsFree, IsHeld}
+use Rattle.block_pool.specs.Nodes.{no_node, node_at, walk, step, blocks_at, placed, chain_at, all_chains, IsLinked, IsLoose, IsPlace, IsWithin, begun, put_before, put_behind, cut_behind}
 use Rattle.block_pool.specs.declared.node.Node.{Node}
-use Rattle.block_pool.proofs.Lists.{from_either, length-once, AllBelow, AllBelow-upto, below_between}
-use Rattle.block_pool.proofs.Walks.{Has-step, walk_parts, walk_end, length-walk, placed-append}
+use Rattle.block_pool.proofs.Lists.{from_either, AllBelow, AllBelow-upto, below_between}
+use Rattle.block_pool.proofs.Walks.{Has-step, walk_end, length-walk, placed-append}
 use Rattle.block_pool.proofs.Relinking.{Relinks, Relinks-begun}
 use Rattle.block_pool.proofs.Inserting.{Relinks-before}
-use Rattle.block_pool.proofs.Cutting.{IsLinked-cut, cut_freed, cut_chain, cut_elsewhere, cut_entries, length-cut}
+use Rattle.block_pool.proofs.Cutting.{IsLinked-cut, cut_chain, cut_elsewhere, cut_entries, length-cut}
 use Rattle.block_pool.proofs.Maps.{found, nonempty, entries_found, same_numbers, put_same, put_other, taken_other, all_chains-cut, all_chains-gone}
-use Rattle.block_pool.proofs.Searching.{final_within, head_within}
 use Rattle.block_pool.proofs.Held.{IsLoose-free, IsFree-loose, IsHeld-fresh, IsLoose-fresh, chains-fresh, IsLinked-next, IsLoose-next, IsWithin-held, count_of, few_freed, room_for, first_absent, Relinks-place, IsHeld-relinked, state-relinked, state-begun}
 
 -- ---- chains that stay as they are

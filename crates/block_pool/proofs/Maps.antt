@@ -1,6 +1,6 @@
 -- The chains that nodes make, found by their heads, and as one map after a change.
-use Rattle.std.proofs.Common.{◌≡◌, ◌≢◌, ℕ, zero, suc, ◌+◌, ◌<◌, ◌≤◌, Bool, true, false, cond, List, [], ◌∷◌, ◌++◌, ◌⊎◌, inl, inr, Option, None, Some, refl, sym, ap, subst, ◌∙◌, length, nat_eq, nat_cmp, nat_lt, arith}
-use Rattle.std.proofs.lemmas.Bool.{cases_eq, cases_lt, eq-eqb, ne_eqb, lt-ltb, le-ltb}
+use Rattle.std.proofs.Common.{◌≡◌, ◌≢◌, ℕ, zero, suc, ◌<◌, ◌≤◌, Bool, true, false, cond, List, [], ◌∷◌, ◌⊎◌, inl, inr, Option, None, Some, refl, sym, ap, subst, ◌∙◌, length, nat_eq, nat_cmp, nat_lt, arith}
+use Rattle.std.proofs.lemmas.Bool.{cases_eq, cases_lt, eq-eqb, ne_eqb}
 use Rattle.std.proofs.lemmas.Bool.Decides.{nat_tests}
 use Rattle.std.proofs.lemmas.List.{get_or_past}
 use Rattle.std.specs.Cmp.{nat_cmp_total}
@@ -8,7 +8,7 @@ use Rattle.std.specs.FinMap as fin
 use Rattle.std.specs.Option.{unwrap_or}
 use Rattle.std.specs.Ordering.{is_eq}
 use Rattle.block_pool.specs.Chains.{Entries, ChainMap, entries_of, replaced, inserted}
-use Rattle.block_pool.specs.Nodes.{no_node, node_at, walk, blocks_at, placed, chain_at, with_nonempty, chains_below, all_chains, IsLinked, IsLoose}
+use Rattle.block_pool.specs.Nodes.{no_node, walk, placed, chain_at, with_nonempty, chains_below, all_chains, IsLinked, IsLoose}
 use Rattle.block_pool.specs.declared.node.Node.{Node}
 use Rattle.block_pool.proofs.Lists.{from_either}
 use Rattle.block_pool.proofs.Relinking.{Relinks, relinked_chain, loose_empty}

@@ -1,9 +1,9 @@
 -- Parts of one size: one more, one of them, and one that is overwritten.
-use Rattle.std.proofs.Common.{◌≡◌, ℕ, zero, suc, ◌+◌, ◌-◌, ◌*◌, ◌<◌, ◌≤◌, List, [], ◌∷◌, ◌++◌, refl, sym, ap, subst, ◌∙◌, length, take, drop, get_or, set, arith, rules, replicate, append_assoc, length-append, length-drop}
+use Rattle.std.proofs.Common.{◌≡◌, ℕ, zero, suc, ◌+◌, ◌-◌, ◌*◌, ◌<◌, ◌≤◌, List, [], ◌∷◌, ◌++◌, refl, sym, ap, ◌∙◌, length, take, drop, get_or, set, arith, rules, replicate, append_assoc, length-drop}
 use Rattle.std.proofs.lemmas.List.{places, same_lists, take_at, drop_at, drop-drop, take-append-drop, length-take-le, take_all, length-replicate, append-nil}
 use Rattle.std.proofs.Math.Nat.{mul-le-mul_right}
 use Rattle.staging_spec.specs.Content.{zeros}
-use Rattle.block_pool.specs.Blocks.{parts, overwritten, readied}
+use Rattle.block_pool.specs.Blocks.{parts, overwritten}
 
 pub length-parts : (size n : ℕ) (xs : List ℕ) → length (parts size n xs) ≡ n
 length-parts size zero xs = refl

@@ -1,19 +1,18 @@
 -- From links and bytes to what the pool shows.
-use Rattle.std.proofs.Common.{◌≡◌, ◌≢◌, ℕ, zero, suc, ◌+◌, ◌-◌, ◌<◌, ◌≤◌, Bool, true, false, cond, List, [], ◌∷◌, ◌++◌, ◌⊎◌, inl, inr, Option, None, Some, IsSome, is_some, refl, sym, ap, subst, ◌∙◌, length, map, get_or, set, take, drop, nat_eq, nat_lt, nat_cmp, arith, length-append}
-use Rattle.std.proofs.lemmas.Bool.{cases_eq, cases_lt, false≢true, eq-eqb, ne_eqb}
-use Rattle.std.proofs.lemmas.Bool.Decides.{nat_tests}
+use Rattle.std.proofs.Common.{◌≡◌, ◌≢◌, ℕ, zero, suc, ◌+◌, ◌<◌, ◌≤◌, Bool, true, false, cond, List, [], ◌∷◌, ◌++◌, ◌⊎◌, inl, inr, Option, None, Some, refl, sym, ap, subst, ◌∙◌, length, map, get_or, set, take, drop, nat_eq, nat_lt, nat_cmp, arith, length-append}
+use Rattle.std.proofs.lemmas.Bool.{cases_eq, eq-eqb, ne_eqb}
 use Rattle.std.proofs.lemmas.List.{length-map, get_or-set_same, get_or-set_other, get_or_append_left, get_or_at, length-take-le, length-drop, length-set}
 use Rattle.std.specs.Cmp.{nat_cmp_total}
 use Rattle.std.specs.FinMap as fin
 use Rattle.std.specs.Map.{set_value}
 use Rattle.std.specs.Option.{unwrap_or, option_map}
-use Rattle.std.specs.Ordering.{is_eq, eq_by_cmp}
+use Rattle.std.specs.Ordering.{eq_by_cmp}
 use Rattle.staging_spec.specs.Content.{zeros}
-use Rattle.block_pool.specs.Blocks.{RegionBytes, overwritten, readied}
-use Rattle.block_pool.specs.Chains.{Entries, ChainMap, AllAbove, Rises, entries_of, without, with_chain, replaced, at, inserted, below, head_of, IsChain}
-use Rattle.block_pool.specs.Links.{LinkState, free_of, blocks_of, IsFree, IsValid}
+use Rattle.block_pool.specs.Blocks.{overwritten, readied}
+use Rattle.block_pool.specs.Chains.{Entries, ChainMap, entries_of, without, replaced, at, inserted, below}
+use Rattle.block_pool.specs.Links.{blocks_of}
 use Rattle.block_pool.specs.Nodes.{Has, Once}
-use Rattle.block_pool.specs.Pool.{Pool, filled, with_bytes, pool_of, total, AllOf, AllSized, IsFilled, IsPool, Keeps, put_block, cut_chain, cut_head, write_block, block_at, give_chain, take_chain, zero_blocks}
+use Rattle.block_pool.specs.Pool.{filled, with_bytes, AllOf}
 use Rattle.block_pool.proofs.Lists.{from_either}
 use Rattle.block_pool.proofs.Maps.{put_same, put_other, taken_same, taken_other, same_numbers}
 use Rattle.block_pool.proofs.Parts.{length-zeros}

@@ -1,20 +1,20 @@
 -- What each call of the pool leaves, for links and bytes that show a pool.
-use Rattle.std.proofs.Common.{◌≡◌, ◌≢◌, ℕ, zero, suc, ◌+◌, ◌-◌, ◌<◌, ◌≤◌, Bool, true, false, cond, List, [], ◌∷◌, ◌⊎◌, inl, inr, Option, None, Some, IsSome, is_some, refl, sym, ap, subst, ◌∙◌, length, get_or, set, take, drop, nat_eq, nat_lt, nat_cmp, arith}
-use Rattle.std.proofs.lemmas.Bool.{cases_eq, false≢true, eq-eqb, ne_eqb, le-ltb}
+use Rattle.std.proofs.Common.{◌≡◌, ◌≢◌, ℕ, zero, suc, ◌+◌, ◌-◌, ◌<◌, ◌≤◌, Bool, true, false, cond, List, [], ◌∷◌, ◌⊎◌, inl, inr, Option, None, Some, IsSome, is_some, refl, sym, ap, subst, ◌∙◌, length, get_or, set, nat_eq, nat_lt, nat_cmp, arith}
+use Rattle.std.proofs.lemmas.Bool.{cases_eq, false≢true, le-ltb}
 use Rattle.std.proofs.lemmas.List.{get_or-set_other, length-set}
 use Rattle.std.specs.FinMap as fin
 use Rattle.std.specs.Map.{set_value}
 use Rattle.std.specs.Option.{unwrap_or, option_map}
 use Rattle.staging_spec.specs.Content.{zeros}
 use Rattle.block_pool.specs.Blocks.{RegionBytes, overwritten, readied}
-use Rattle.block_pool.specs.Chains.{Entries, ChainMap, Rises, AllAbove, entries_of, without, with_chain, replaced, at, inserted, below, head_of, IsChain}
+use Rattle.block_pool.specs.Chains.{Entries, ChainMap, Rises, AllAbove, entries_of, without, replaced, at, inserted, below, head_of, IsChain}
 use Rattle.block_pool.specs.Links.{LinkState, free_of, blocks_of, IsFree, IsValid}
 use Rattle.block_pool.specs.Nodes.{Has, Once}
 use Rattle.block_pool.specs.Pool.{Pool, filled, with_bytes, pool_of, total, AllOf, AllSized, IsFilled, IsPool, Keeps, put_block, cut_chain, cut_head, write_block, block_at, give_chain}
 use Rattle.block_pool.proofs.Lists.{from_either}
 use Rattle.block_pool.proofs.Maps.{same_numbers, put_same, put_other, taken_other}
 use Rattle.block_pool.proofs.Totals.{IsBelow, total-empty, total-replaced, total-without, Keeps-replaced, Keeps-without}
-use Rattle.block_pool.proofs.PoolLaws.{at_filled, filled-inserted, filled-below, filled_same, filled-set, has_at, length-filled, get-with_bytes, entries-with_bytes, with_bytes-replaced, with_bytes-without, with_bytes_same, sized_at, sized-set, length-overwritten, ready_sized, ready_length, ready_other, ready_here}
+use Rattle.block_pool.proofs.PoolLaws.{at_filled, filled-inserted, filled-below, filled_same, filled-set, has_at, length-filled, get-with_bytes, entries-with_bytes, with_bytes-replaced, with_bytes_same, sized_at, sized-set, length-overwritten, ready_sized, ready_length, ready_other, ready_here}
 
 length-inserted : (es : Entries ℕ) (p b : ℕ) → length (inserted es p b) ≡ length es + 1
 length-inserted [] p b = refl

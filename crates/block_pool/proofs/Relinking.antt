@@ -1,12 +1,12 @@
 -- What stays of the links, and of the freed blocks, when a chain gets a block more.
-use Rattle.std.proofs.Common.{◌≡◌, ◌≢◌, ℕ, zero, suc, ◌+◌, ◌<◌, ◌≤◌, List, [], ◌∷◌, ◌++◌, ◌⊎◌, inl, inr, refl, sym, ap, subst, ◌∙◌, length, set, map, cond, true, false, nat_eq, arith, append_assoc}
-use Rattle.std.proofs.lemmas.Bool.{cases_eq, cases_lt, eq-eqb, ne_eqb}
+use Rattle.std.proofs.Common.{◌≡◌, ◌≢◌, ℕ, zero, suc, ◌<◌, List, [], ◌∷◌, ◌++◌, ◌⊎◌, inl, inr, refl, sym, ap, subst, ◌∙◌, length}
+use Rattle.std.proofs.lemmas.Bool.{cases_eq}
 use Rattle.std.proofs.lemmas.List.{length-set, same_from_push}
-use Rattle.block_pool.specs.Chains.{Entries, AllAbove, Rises, inserted}
-use Rattle.block_pool.specs.Nodes.{no_node, node_at, walk, step, blocks_at, placed, chain_at, Has, Once, IsLinked, IsLoose, begun, put_before, pointed, joined, bounded, put_behind}
+use Rattle.block_pool.specs.Chains.{Rises, inserted}
+use Rattle.block_pool.specs.Nodes.{node_at, walk, blocks_at, placed, chain_at, Has, Once, IsLinked, IsLoose, begun}
 use Rattle.block_pool.specs.declared.node.Node.{Node}
-use Rattle.block_pool.proofs.Lists.{from_either, Has-left, Has-right, Has-append, Has-inside, Once-apart, Once-left, Once-right, AllBelow, AllBelow-upto, AllAbove-lower, Rises-left, Rises-right, inserted_between, Rises-between}
-use Rattle.block_pool.proofs.Walks.{walk_parts, walk_end, Has-step, Has-head, walk_kept, step_kept, walk_missed, walk_ended, node_at-same, node_at-other, part_kept, placed_same, placed-append, Once-rising}
+use Rattle.block_pool.proofs.Lists.{from_either}
+use Rattle.block_pool.proofs.Walks.{Has-head, walk_missed, node_at-same, node_at-other, placed_same}
 
 -- the chain of one head, which may be empty, goes to another head, with a block more at its place
 pub record Relinks (nodes other : List Node) (first freed old new block position : ℕ) : Type 0 where

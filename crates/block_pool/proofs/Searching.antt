@@ -1,11 +1,11 @@
 -- What a search along a chain finds at a position.
-use Rattle.std.proofs.Common.{◌≡◌, ◌≢◌, ℕ, zero, suc, ◌+◌, ◌-◌, ◌<◌, ◌≤◌, Bool, true, false, cond, List, [], ◌∷◌, ◌++◌, ◌⊎◌, inl, inr, Option, None, Some, refl, sym, ap, subst, ◌∙◌, length, nat_eq, arith}
+use Rattle.std.proofs.Common.{◌≡◌, ◌≢◌, ℕ, suc, ◌+◌, ◌-◌, ◌<◌, ◌≤◌, cond, List, [], ◌∷◌, ◌++◌, None, Some, refl, sym, ap, subst, ◌∙◌, length, arith}
 use Rattle.std.proofs.lemmas.Bool.{eq-eqb, ne_eqb}
 use Rattle.block_pool.specs.Chains.{Entries, AllAbove, Rises, at}
-use Rattle.block_pool.specs.Nodes.{node_at, walk, step, blocks_at, placed, chain_at, Has, IsLinked, IsPlace, IsWithin}
+use Rattle.block_pool.specs.Nodes.{node_at, walk, step, placed, chain_at, IsWithin}
 use Rattle.block_pool.specs.declared.node.Node.{Node}
-use Rattle.block_pool.proofs.Lists.{AllBelow, AllBelow-upto, AllAbove-right, Rises-right}
-use Rattle.block_pool.proofs.Walks.{walk_end, step_next, Has-step, Has-head, placed-append}
+use Rattle.block_pool.proofs.Lists.{AllBelow, AllBelow-upto, AllAbove-right}
+use Rattle.block_pool.proofs.Walks.{walk_end, step_next, placed-append}
 
 module _ {V : Type 0} where
   pub none_below : (p : ℕ) (es : Entries V) → AllBelow p es → at es p ≡ None

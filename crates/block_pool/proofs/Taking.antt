@@ -1,11 +1,11 @@
 -- A chain that is taken block by block.
-use Rattle.std.proofs.Common.{◌≡◌, ◌≢◌, ℕ, zero, suc, ◌+◌, ◌-◌, ◌<◌, ◌≤◌, Bool, true, false, cond, List, [], ◌∷◌, ◌++◌, ◌⊎◌, inl, inr, Option, None, Some, IsSome, is_some, refl, sym, ap, subst, ◌∙◌, length, nat_lt, nat_eq, arith}
-use Rattle.std.proofs.lemmas.Bool.{cases_eq, false≢true, lt-ltb, le-ltb}
+use Rattle.std.proofs.Common.{◌≡◌, ◌≢◌, ℕ, zero, suc, ◌+◌, ◌-◌, ◌<◌, ◌≤◌, true, List, [], ◌∷◌, ◌++◌, Option, None, Some, IsSome, is_some, refl, sym, ap, subst, ◌∙◌, nat_lt, arith}
+use Rattle.std.proofs.lemmas.Bool.{cases_eq, false≢true, lt-ltb}
 use Rattle.std.proofs.lemmas.List.{append-nil}
 use Rattle.std.specs.FinMap as fin
 use Rattle.std.specs.Option.{unwrap_or}
 use Rattle.staging_spec.specs.Content.{zeros}
-use Rattle.block_pool.specs.Chains.{Entries, ChainMap, AllAbove, Rises, entries_of, without, with_chain, replaced, at, inserted, IsChain}
+use Rattle.block_pool.specs.Chains.{Entries, ChainMap, entries_of, without, with_chain, replaced, at, inserted}
 use Rattle.block_pool.specs.Pool.{Pool, Keeps, put_block, take_chain, zero_blocks}
 use Rattle.block_pool.proofs.Lists.{from_either, AllBelow, inserted_between}
 use Rattle.block_pool.proofs.Maps.{put_same, put_other, taken_same, taken_other, same_numbers}

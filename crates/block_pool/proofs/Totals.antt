@@ -1,9 +1,9 @@
 -- How many blocks all chains have, and which chains stay, after a change.
-use Rattle.std.proofs.Common.{◌≡◌, ◌≢◌, ℕ, zero, suc, ◌+◌, ◌-◌, ◌<◌, ◌≤◌, List, [], ◌∷◌, ◌⊎◌, inl, inr, Option, None, Some, IsSome, is_some, refl, sym, ap, subst, ◌∙◌, length, arith}
+use Rattle.std.proofs.Common.{◌≡◌, ◌≢◌, ℕ, zero, suc, ◌+◌, ◌<◌, List, [], ◌⊎◌, inl, inr, Option, None, Some, IsSome, is_some, refl, sym, ap, ◌∙◌, length, arith}
 use Rattle.std.proofs.lemmas.Bool.{cases_eq, false≢true}
 use Rattle.std.specs.FinMap as fin
 use Rattle.std.specs.Option.{unwrap_or}
-use Rattle.block_pool.specs.Chains.{Entries, ChainMap, entries_of, without, with_chain, replaced, IsChain}
+use Rattle.block_pool.specs.Chains.{Entries, ChainMap, entries_of, without, replaced, IsChain}
 use Rattle.block_pool.specs.Pool.{total, Keeps}
 use Rattle.block_pool.proofs.Lists.{from_either}
 use Rattle.block_pool.proofs.Maps.{put_same, put_other, taken_same, taken_other}

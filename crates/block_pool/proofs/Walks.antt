@@ -1,11 +1,10 @@
 -- Walks along the links: in parts, and after one node is written.
-use Rattle.std.proofs.Common.{◌≡◌, ◌≢◌, ℕ, zero, suc, ◌+◌, ◌<◌, ◌≤◌, List, [], ◌∷◌, ◌++◌, ◌⊎◌, inl, inr, refl, sym, ap, subst, ◌∙◌, length, get_or, set, map, arith}
+use Rattle.std.proofs.Common.{◌≡◌, ◌≢◌, ℕ, zero, suc, ◌+◌, ◌<◌, ◌≤◌, List, [], ◌∷◌, ◌++◌, ◌⊎◌, inl, inr, refl, sym, ap, subst, ◌∙◌, length, set, arith}
 use Rattle.std.proofs.lemmas.Bool.{cases_eq, cases_lt}
-use Rattle.std.proofs.lemmas.List.{get_or-set_same, get_or-set_other, set_past, get_or_past, get_or_append_left, same_from_push, map-append}
-use Rattle.block_pool.specs.Chains.{Entries, AllAbove, Rises}
-use Rattle.block_pool.specs.Nodes.{no_node, node_at, walk, step, blocks_at, placed, chain_at, Has, Once}
+use Rattle.std.proofs.lemmas.List.{get_or-set_same, get_or-set_other, set_past, map-append}
+use Rattle.block_pool.specs.Chains.{AllAbove, Rises}
+use Rattle.block_pool.specs.Nodes.{no_node, node_at, walk, step, blocks_at, placed, Has, Once}
 use Rattle.block_pool.specs.declared.node.Node.{Node}
-use Rattle.block_pool.proofs.Lists.{Has-left, Has-right}
 
 -- ---- in parts
 pub walk_parts : (nodes : List Node) (k m n b : ℕ) → n ≡ k + m → walk nodes n b ≡ walk nodes k b ++ walk nodes m (step nodes k b)

@@ -1,5 +1,5 @@
 -- Blocks of a content, and which of them a range meets.
-use Rattle.std.specs.Prelude.{ℕ, zero, suc, ◌+◌, ◌-◌, ◌*◌, ◌/◌, ◌==◌, ◌&&◌, Bool, false, true, not, List, [], ◌∷◌, filter, length, nat_lt, cond}
+use Rattle.std.specs.Prelude.{ℕ, zero, suc, ◌+◌, ◌-◌, ◌*◌, ◌/◌, ◌==◌, Bool, not, List, [], ◌∷◌, filter, nat_lt, cond}
 use Rattle.std.specs.List.{list_any}
 
 -- the bytes of a block

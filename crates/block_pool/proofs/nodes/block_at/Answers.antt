@@ -1,10 +1,8 @@
-use Rattle.std.proofs.Common.{sym, ap, ◌∙◌, subst, arith}
+use Rattle.std.proofs.Common.{sym, ap, ◌∙◌, subst}
 use Rattle.block_pool.proofs.Searching.{none_behind, found_last, left_more, Left}
 use Rattle.block_pool.proofs.nodes.block_at.Goals as goal
 use Rattle.block_pool.specs.Nodes.{node_at}
-use Rattle.std.proofs.Common.{◌≡◌, ◌<◌, ◌+◌, ℕ, Some}
-use Rattle.block_pool.specs.Chains.{at}
-use Rattle.block_pool.specs.Nodes.{chain_at}
+use Rattle.std.proofs.Common.{◌≡◌, ◌<◌, ◌+◌, Some}
 use Rattle.block_pool.specs.declared.node.Node.{Node}
 
 pub returns-then-last-position : goal.returns-then-last-position

@@ -1,6 +1,6 @@
-use Rattle.std.proofs.Common.{◌≡◌, ◌<◌, ◌≤◌, ◌+◌, ◌-◌, sym, ap, ◌∙◌, subst, arith, length, vec_len, ℕ}
+use Rattle.std.proofs.Common.{◌≡◌, ◌<◌, ◌≤◌, ◌+◌, ◌-◌, ap, ◌∙◌, subst, arith, length}
 use Rattle.block_pool.specs.Nodes.{node_at, step}
-use Rattle.block_pool.proofs.Searching.{place_within, next_is, next_within}
+use Rattle.block_pool.proofs.Searching.{next_is, next_within}
 use Rattle.block_pool.proofs.nodes.place_below.Goals as goal
 use Rattle.block_pool.specs.declared.node.Node.{Node}
 

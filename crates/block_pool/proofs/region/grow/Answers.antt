@@ -1,4 +1,4 @@
-use Rattle.std.proofs.Common.{◌≡◌, ◌+◌, ◌-◌, ◌++◌, ap, ◌∙◌, cond, is_ok, take, replicate, vec_len, arith}
+use Rattle.std.proofs.Common.{◌+◌, ◌-◌, ◌++◌, ap, ◌∙◌, cond, is_ok, take, replicate, vec_len}
 use Rattle.block_pool.proofs.Parts.{grown}
 use Rattle.block_pool.proofs.region.grow.Goals as goal
 

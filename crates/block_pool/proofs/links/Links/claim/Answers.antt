@@ -1,7 +1,5 @@
-use Rattle.std.proofs.Common.{◌≡◌, ◌<◌, ◌≤◌, ◌+◌, ◌-◌, ℕ, zero, suc, List, ◌++◌, ◌∷◌, [], length, cond, nat_eq, sym, ap, subst, ◌∙◌, arith}
-use Rattle.block_pool.specs.Links.{IsHeld, IsFree, link_state, free_of}
-use Rattle.block_pool.specs.Nodes.{node_at, no_node, walk, all_chains, IsLinked}
-use Rattle.block_pool.specs.declared.node.Node.{Node}
+use Rattle.std.proofs.Common.{◌<◌, length, sym, subst, ◌∙◌, arith}
+use Rattle.block_pool.specs.Links.{IsFree, link_state, free_of}
 use Rattle.block_pool.proofs.LinkLaws.{next_held, next_free, next_used, next_within, fresh_held, fresh_free, fresh_shows}
 use Rattle.block_pool.proofs.Walks.{length-walk}
 use Rattle.block_pool.proofs.links.Links.claim.Goals as goal

@@ -1,10 +1,10 @@
-use Rattle.std.proofs.Common.{◌≡◌, ◌<◌, ◌≤◌, ◌+◌, ◌-◌, ℕ, suc, length, vec_capacity, Some, None, sym, ap, subst, ◌∙◌, arith}
-use Rattle.block_pool.specs.Chains.{entries_of, below, head_of, replaced}
+use Rattle.std.proofs.Common.{◌≡◌, ◌≤◌, ◌+◌, ◌-◌, ℕ, suc, length, vec_capacity, Some, sym, ap, subst, ◌∙◌, arith}
+use Rattle.block_pool.specs.Chains.{entries_of, below}
 use Rattle.block_pool.specs.Links.{IsHeld, IsValid, link_state, free_of}
-use Rattle.block_pool.specs.Nodes.{node_at, step, cut_behind, all_chains}
+use Rattle.block_pool.specs.Nodes.{node_at}
 use Rattle.block_pool.specs.declared.node.Node.{Node}
 use Rattle.block_pool.proofs.Held.{IsValid-held}
-use Rattle.block_pool.proofs.LinkLaws.{whole, IsCut, IsCut-whole, IsCut-place, held_cut, fits_cut, free_cut, gone_cut, some_cut, uncut}
+use Rattle.block_pool.proofs.LinkLaws.{whole, IsCut-whole, IsCut-place, held_cut, fits_cut, free_cut, gone_cut, some_cut, uncut}
 use Rattle.block_pool.proofs.Searching.{head_within, final_within, place_within, next_is}
 use Rattle.block_pool.proofs.links.Links.cut.Goals as goal
 

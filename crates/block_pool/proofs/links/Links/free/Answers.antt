@@ -1,4 +1,4 @@
-use Rattle.std.proofs.Common.{◌≡◌, ◌+◌, ◌-◌, ◌∙◌, ap, sym, subst, length, arith}
+use Rattle.std.proofs.Common.{◌≡◌, ◌+◌, ◌-◌, subst, arith}
 use Rattle.block_pool.specs.Links.{IsValid, free_of}
 use Rattle.block_pool.proofs.Held.{IsValid-held, few_freed}
 use Rattle.block_pool.proofs.Walks.{length-walk}

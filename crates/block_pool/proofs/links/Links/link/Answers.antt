@@ -1,6 +1,6 @@
-use Rattle.std.proofs.Common.{◌≡◌, ◌<◌, ◌≤◌, Option, None, Some, sym, subst, arith}
+use Rattle.std.proofs.Common.{◌≡◌, ◌<◌, ◌≤◌, None, subst, arith}
 use Rattle.block_pool.specs.Chains.{IsChain, at, entries_of}
-use Rattle.block_pool.specs.Nodes.{node_at, begun, put_before, put_behind}
+use Rattle.block_pool.specs.Nodes.{begun, put_before, put_behind}
 use Rattle.block_pool.specs.declared.node.Node.{Node}
 use Rattle.block_pool.proofs.LinkLaws.{whole, not_first, relinks_place, relinks_before, relinks_begun, held_after, shows_after, shows_begun, room_is}
 use Rattle.block_pool.proofs.Searching.{head_within, place_within}

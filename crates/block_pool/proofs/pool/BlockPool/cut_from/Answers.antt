@@ -1,4 +1,4 @@
-use Rattle.std.proofs.Common.{◌≡◌, ◌≢◌, ◌<◌, ◌+◌, ◌-◌, ◌∙◌, ℕ, List, [], ◌∷◌, Option, None, Some, IsSome, is_some, refl, sym, ap, subst, length, take, drop, cond, arith}
+use Rattle.std.proofs.Common.{◌≡◌, ◌∙◌, Some, sym, ap, subst}
 use Rattle.block_pool.specs.Chains.{IsChain}
 use Rattle.block_pool.specs.Pool.{cut_head}
 use Rattle.block_pool.proofs.PoolSteps.{IsLess, chain_is, less_head, less_shows, less_filled, less_keeps}

@@ -1,4 +1,4 @@
-use Rattle.std.proofs.Common.{◌≡◌, ◌≢◌, ◌<◌, ◌+◌, ◌-◌, ◌∙◌, ℕ, List, [], ◌∷◌, Option, None, Some, IsSome, is_some, refl, sym, ap, subst, length, take, drop, cond, arith}
+use Rattle.std.proofs.Common.{◌∙◌}
 use Rattle.block_pool.proofs.PoolSteps.{given_back}
 use Rattle.block_pool.proofs.pool.BlockPool.give.Goals as goal
 

@@ -1,4 +1,4 @@
-use Rattle.std.proofs.Common.{◌≡◌, ◌≢◌, ◌<◌, ◌+◌, ◌-◌, ◌∙◌, ℕ, List, [], ◌∷◌, Option, None, Some, IsSome, is_some, refl, sym, ap, subst, length, take, drop, cond, arith}
+use Rattle.std.proofs.Common.{◌∙◌, Some, is_some, sym, ap, subst}
 use Rattle.block_pool.specs.Chains.{IsChain, at, entries_of}
 use Rattle.block_pool.proofs.PoolSteps.{chain_is, some_same}
 use Rattle.block_pool.proofs.pool.BlockPool.holds.Goals as goal

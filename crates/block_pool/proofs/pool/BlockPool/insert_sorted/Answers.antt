@@ -1,6 +1,5 @@
-use Rattle.std.proofs.Common.{◌≡◌, ◌⊎◌, ◌≢◌, ◌<◌, ◌+◌, ◌-◌, ◌∙◌, ℕ, List, [], ◌∷◌, Option, None, Some, IsSome, is_some, refl, sym, ap, subst, length, take, drop, cond, arith}
+use Rattle.std.proofs.Common.{◌≡◌, ◌⊎◌, None, Some, is_some, sym, ap, subst}
 use Rattle.block_pool.specs.Chains.{IsChain, at, entries_of, inserted, replaced}
-use Rattle.block_pool.specs.Links.{LinkState}
 use Rattle.block_pool.proofs.PoolSteps.{IsPut, chain_is, absent_is, put_shows, put_filled, put_keeps}
 use Rattle.block_pool.proofs.pool.BlockPool.insert_sorted.Goals as goal
 

@@ -1,8 +1,3 @@
-use Rattle.std.proofs.Common.{◌≡◌, ◌≢◌, ◌<◌, ◌+◌, ◌-◌, ◌∙◌, ℕ, List, [], ◌∷◌, Option, None, Some, IsSome, is_some, refl, sym, ap, subst, length, take, drop, cond, arith}
-use Rattle.std.specs.FinMap as fin
-use Rattle.block_pool.specs.Blocks.{RegionBytes}
-use Rattle.block_pool.specs.Links.{LinkState}
-use Rattle.block_pool.specs.Pool.{IsFilled}
 use Rattle.block_pool.proofs.PoolSteps.{new_filled, new_shows}
 use Rattle.block_pool.proofs.pool.BlockPool.new.Goals as goal
 

@@ -1,4 +1,4 @@
-use Rattle.std.proofs.Common.{◌≡◌, ◌≢◌, ◌<◌, ◌+◌, ◌-◌, ◌∙◌, ℕ, List, [], ◌∷◌, Option, None, Some, IsSome, is_some, refl, sym, ap, subst, length, take, drop, cond, arith}
+use Rattle.std.proofs.Common.{◌∙◌, Some, IsSome, sym, ap, subst, length, take, drop}
 use Rattle.block_pool.specs.Chains.{IsChain, at, entries_of}
 use Rattle.block_pool.specs.Pool.{block_at}
 use Rattle.block_pool.proofs.PoolSteps.{chain_is, there_is, block_within, block_is}

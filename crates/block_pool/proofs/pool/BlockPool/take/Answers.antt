@@ -1,4 +1,4 @@
-use Rattle.std.proofs.Common.{◌≡◌, ◌≤◌, ◌∙◌, true, ap, subst, sym, arith}
+use Rattle.std.proofs.Common.{◌≤◌, ◌∙◌, arith}
 use Rattle.std.proofs.lemmas.Bool.{OnTrue_at}
 use Rattle.block_pool.proofs.Taking.{IsTaken-more, taken_absent, taken_free}
 use Rattle.block_pool.proofs.pool.BlockPool.take.Goals as goal

@@ -1,7 +1,6 @@
-use Rattle.std.proofs.Common.{◌≡◌, ◌≢◌, ◌<◌, ◌+◌, ◌-◌, ◌∙◌, ℕ, List, [], ◌∷◌, Option, None, Some, IsSome, is_some, refl, sym, ap, subst, length, take, drop, cond, arith}
+use Rattle.std.proofs.Common.{◌∙◌, Some, IsSome, sym, subst}
 use Rattle.block_pool.specs.Chains.{IsChain, at, entries_of}
-use Rattle.block_pool.specs.Pool.{block_at}
-use Rattle.block_pool.proofs.PoolSteps.{chain_is, there_is, block_within, block_is, written_shows, written_filled, written_keeps}
+use Rattle.block_pool.proofs.PoolSteps.{chain_is, there_is, block_within, written_shows, written_filled, written_keeps}
 use Rattle.block_pool.proofs.pool.BlockPool.write.Goals as goal
 
 pub find-requires : goal.find-requires

@@ -1,4 +1,4 @@
-use Rattle.std.proofs.Common.{◌≡◌, ◌+◌, ◌*◌, ◌<◌, ◌≤◌, ℕ, sym, ap, ◌∙◌, length, arith}
+use Rattle.std.proofs.Common.{sym, ◌∙◌, length, arith}
 use Rattle.block_pool.proofs.RegionLaws.{fits_in, part_read}
 use Rattle.block_pool.proofs.region.Region.read.Goals as goal
 

@@ -1,4 +1,4 @@
-use Rattle.std.proofs.Common.{◌≡◌, ◌+◌, ◌*◌, ◌<◌, ◌≤◌, ℕ, sym, ap, ◌∙◌, length, arith}
+use Rattle.std.proofs.Common.{◌<◌, sym, ◌∙◌, length, arith}
 use Rattle.block_pool.proofs.RegionLaws.{used_is, fits_in, part_added, part_cleared}
 use Rattle.block_pool.proofs.region.Region.ready.Goals as goal
 
