@@ -1,0 +1,41 @@
+ghost use Rattle.std.specs.Prelude.{◌≡◌};
+
+use std::marker::Model;
+
+/// A chain of blocks in a pool, which has its bytes. Contracts see it as its head, or none where it is empty. It may be
+/// let go; its blocks then stay taken.
+#[derive(Debug, Drop)]
+pub struct Chain {
+    head: Option<usize>,
+}
+
+impl Model for Chain {
+    ghost use Rattle.std.specs.Prelude.{ℕ, Option};
+
+    ghost Value = { Option ℕ };
+
+    ghost view = { λ c. c.head };
+}
+
+impl Chain {
+    /// The chain with this head.
+    pub(crate) fn with_head(head: Option<usize>) -> Chain
+        ensures { result ≡ head }
+    {
+        Chain { head }
+    }
+
+    /// The head.
+    pub(crate) fn head(&self) -> Option<usize>
+        ensures { result ≡ self.now }
+    {
+        self.head
+    }
+
+    /// Another head.
+    pub(crate) fn set_head(&mut self, head: Option<usize>)
+        ensures { self.new ≡ head }
+    {
+        self.head = head;
+    }
+}

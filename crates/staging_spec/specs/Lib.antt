@@ -1,0 +1,5 @@
+-- What staged content is, over plain lists and numbers.
+pub mod Content
+pub mod Blocks
+pub mod Staging
+pub mod Wanted
