@@ -1,12 +1,15 @@
--- The definition of the mount on one thread: what it holds, and what each request asks, answers and leaves.
+-- The definition of the mount: what it holds, and what each request asks, answers and leaves.
 pub mod Attributes
-pub mod Counts
+pub mod Claiming
+pub mod Dispatch
 pub mod Errno
-pub mod MountModel
-pub mod Observations
+pub mod Guards
+pub mod Laws
+pub mod Making
+pub mod Mount
 pub mod OneThread
-pub mod PlainNames
-pub mod Request
+pub mod Plans
+pub mod Requests
 pub mod Rules
 pub mod Showing
-pub mod Store
+pub mod View

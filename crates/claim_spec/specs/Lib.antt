@@ -1,0 +1,2 @@
+-- The words that the contracts of `claims`, and the rules of the requests, cite.
+pub mod Conflicts

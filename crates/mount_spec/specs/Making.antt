@@ -1,0 +1,30 @@
+-- Making an object of a name, only where none is live (Cloud Storage: `ifGenerationMatch=0`): what is asked, and what came
+-- of it.
+use Rattle.std.specs.Prelude.{ℕ, [], ◌∷◌, List, Option, Some}
+use Rattle.bucket_api.specs.Metadata.{Metadata}
+use Rattle.bucket_api.specs.declared.answers.Answer.{Answer}
+use Rattle.bucket_api.specs.declared.answers.Answer.TheVariants as answers
+use Rattle.bucket_api.specs.declared.objects.Pair.{Pair}
+use Rattle.bucket_api.specs.Operation.{insert}
+use Rattle.mount_spec.specs.Plans.{Observation, Step, done, ask}
+
+-- the object is empty, and has these pairs
+abbrev pub plan : List ℕ → List Pair → ℕ → List Answer → Step
+plan name pairs second [] = ask (insert name [] pairs (Some 0) second)
+plan name pairs second (a ∷ more) = done
+
+-- What came of the insert: a new object, as the bucket told of it at a moment; nothing, since one was live; or the
+-- bucket failed.
+pub data Made : Type 0 where
+  new : Metadata → ℕ → Made
+  exists : Made
+  fault : Made
+
+abbrev pub made_by : ℕ → Answer → Made
+made_by moment (answers.Meta meta) = new meta moment
+made_by moment (answers.Precondition generation metageneration) = exists
+made_by moment _ = fault
+
+abbrev pub made : List Observation → Made
+made [] = fault
+made (o ∷ more) = made_by o.moment o.answer
