@@ -1,6 +1,10 @@
--- When a stream may answer that it failed.
-use Rattle.std.specs.Prelude.{ℕ, ◌+◌, ◌-◌, ◌^◌, ◌≤◌, min}
+-- How many calls of a stream, or of whatever else can fail, have failed.
+use Rattle.std.specs.Prelude.{◌≡◌, ℕ, ◌+◌, ◌-◌, ◌^◌, max, min}
 
--- A count of faults has risen by at least one between two moments, or stands at the end of `u64`.
+-- The next number of a count in `u64`, which stands still at its end.
+abbrev pub next_count : ℕ → ℕ
+next_count count = max count (min (count + 1) (2 ^ 64 - 1))
+
+-- One more call has failed between two moments.
 abbrev pub Rose : ℕ → ℕ → Type 0
-Rose before now = min (before + 1) (2 ^ 64 - 1) ≤ now
+Rose before now = now ≡ next_count before

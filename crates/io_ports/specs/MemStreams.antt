@@ -1,10 +1,8 @@
 -- The streams in memory, by what they hold and by the calls of them that fail.
-use Rattle.std.specs.Prelude.{ℕ, ◌+◌, ◌-◌, ◌^◌, ◌==◌, ◌++◌, List, length, Bool, min, take, drop, nat_lt, true, if◌then◌else◌}
+use Rattle.std.specs.Prelude.{ℕ, ◌-◌, ◌==◌, ◌++◌, List, length, Bool, min, take, drop, nat_lt, true, if◌then◌else◌, Some}
 use Rattle.std.specs.List.{list_any}
-
--- The next number of a count in `u64`, which stands still at its end.
-abbrev pub next_count : ℕ → ℕ
-next_count count = min (count + 1) (2 ^ 64 - 1)
+use Rattle.io_ports.specs.Faults.{next_count}
+use Rattle.io_ports.specs.Ports.{Port}
 
 -- A source in memory: the bytes it has left, how many calls were made, how many of them failed, which
 -- calls fail, by their numbers from 1, and how many bytes one call gives at most.
@@ -23,6 +21,14 @@ pub record MemPut : Type 0 where
   pub faults : ℕ
   pub failing : List ℕ
   pub room : ℕ
+
+-- What the source tells.
+abbrev pub source_port : MemLeft → Port
+source_port source = record { bytes = Some source.left; faults = source.faults }
+
+-- What the sink tells.
+abbrev pub sink_port : MemPut → Port
+sink_port sink = record { bytes = Some sink.bytes; faults = sink.faults }
 
 -- The next call is one of those that fail.
 abbrev pub is_failing : List ℕ → ℕ → Bool

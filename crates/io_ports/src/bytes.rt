@@ -1,3 +1,4 @@
+//! Bytes of any value, owned.
 ghost use Rattle.std.specs.Prelude.{◌≡◌, IfOk};
 
 use crate::memory::NoMemory;

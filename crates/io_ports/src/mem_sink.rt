@@ -1,7 +1,8 @@
-ghost use Rattle.std.specs.Prelude.{◌≡◌, ◌≤◌, [], is_err, IfOk, OnOk, OnErr};
+//! A sink into memory.
+ghost use Rattle.std.specs.Prelude.{◌≡◌, [], is_err, IfOk, OnOk, OnErr};
 ghost use Rattle.std.specs.Io.KnownBytes.{Appends};
 ghost use Rattle.io_ports.specs.Faults.{Rose};
-ghost use Rattle.io_ports.specs.MemStreams.{put_fails, sink_after};
+ghost use Rattle.io_ports.specs.MemStreams.{put_fails, sink_after, sink_port};
 ghost use Rattle.io_ports.specs.Streams.{AppendsPrefix};
 
 use crate::failed::Failed;
@@ -57,19 +58,15 @@ impl MemSink {
 }
 
 impl Sink for MemSink {
-    ghost use Rattle.std.specs.Prelude.{Some};
-
-    ghost written = { λ s. Some s.bytes };
-
-    ghost faults = { λ s. s.faults };
+    ghost port = { sink_port };
 
     /// A call that fails by its number appends nothing. One that would pass the room appends what there
     /// is room for.
     fn put(&mut self, bytes: &[u8]) -> Result<(), Failed>
-        ensures ok { OnOk result (Appends (Some self.old.bytes) (Some self.new.bytes) bytes.now) }
-        ensures err { OnErr result (AppendsPrefix (Some self.old.bytes) (Some self.new.bytes) bytes.now) }
+        ensures bytes { OnOk result (Appends (sink_port self.old).bytes (sink_port self.new).bytes bytes.now) }
+        ensures err { OnErr result (AppendsPrefix (sink_port self.old).bytes (sink_port self.new).bytes bytes.now) }
+        ensures ok { OnOk result (self.new.faults ≡ self.old.faults) }
         ensures failed { OnErr result (Rose self.old.faults self.new.faults) }
-        ensures faults { self.old.faults ≤ self.new.faults }
 
         ensures after { self.new ≡ sink_after self.old bytes.now }
         ensures refused { is_err result ≡ put_fails self.old bytes.now }

@@ -1,8 +1,9 @@
-ghost use Rattle.std.specs.Prelude.{◌≡◌, ◌≤◌, length, take, is_err, IfOk, OnErr};
+//! A source over bytes in memory.
+ghost use Rattle.std.specs.Prelude.{◌≡◌, ◌≤◌, length, take, drop, is_err, IfOk, OnOk, OnErr};
 ghost use Rattle.std.specs.Io.{ReadsAtMost};
 ghost use Rattle.std.specs.Io.KnownBytes.{ReadConsumes};
 ghost use Rattle.io_ports.specs.Faults.{Rose};
-ghost use Rattle.io_ports.specs.MemStreams.{is_failing, given_count, source_after};
+ghost use Rattle.io_ports.specs.MemStreams.{is_failing, given_count, source_after, source_port};
 
 use crate::failed::Failed;
 use crate::memory::NoMemory;
@@ -58,22 +59,21 @@ impl MemSource {
 }
 
 impl Source for MemSource {
-    ghost use Rattle.std.specs.Prelude.{Some};
+    ghost port = { source_port };
 
-    ghost left = { λ s. Some s.left };
-
-    ghost faults = { λ s. s.faults };
-
-    /// Gives as much as is left, as `buf` holds and as a piece has, or fails by the call's number.
+    /// Gives as much as is left, as `buf` holds and as a piece has, or fails by the call's number. What
+    /// stands in `buf` behind the bytes given stays, and all of it where the call fails.
     fn take(&mut self, buf: &mut [u8]) -> Result<usize, Failed>
         ensures bound { ReadsAtMost result buf.new }
-        ensures bytes { ReadConsumes (Some self.old.left) (Some self.new.left) result buf.new }
+        ensures bytes { ReadConsumes (source_port self.old).bytes (source_port self.new).bytes result buf.new }
+        ensures ok { OnOk result (self.new.faults ≡ self.old.faults) }
         ensures failed { OnErr result (Rose self.old.faults self.new.faults) }
-        ensures faults { self.old.faults ≤ self.new.faults }
 
         ensures after { self.new ≡ source_after self.old (length buf.old) }
         ensures err { is_err result ≡ is_failing self.old.failing self.old.calls }
         ensures count { IfOk result (λ count. count ≡ given_count self.old (length buf.old)) }
+        ensures kept { OnErr result (buf.new ≡ buf.old) }
+        ensures rest { IfOk result (λ count. drop count buf.new ≡ drop count buf.old) }
     {
         self.calls = self.calls.saturating_add(1);
         if self.failing.contains(&self.calls) {
@@ -88,11 +88,12 @@ impl Source for MemSource {
     }
 }
 
-// Copies the first `count` bytes of `from` to the front of `buf`.
+/// Copies the first `count` bytes of `from` to the front of `buf`.
 fn copy_front(buf: &mut [u8], from: &[u8], count: usize)
     requires source { count ≤ length from.now }
     requires room { count ≤ length buf.old }
-    ensures { take count buf.new ≡ take count from.now }
+    ensures front { take count buf.new ≡ take count from.now }
+    ensures rest { drop count buf.new ≡ drop count buf.old }
 {
     let (front, _rest) = buf.split_at_mut(count);
     let (copied, _left) = from.split_at(count);

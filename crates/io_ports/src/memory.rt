@@ -1,3 +1,4 @@
+//! That memory was refused.
 use std::alloc::{AllocError, AllocFailed};
 
 /// Memory for a new value, or for the growth of one, was refused. Where a call answers this, what it

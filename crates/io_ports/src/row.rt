@@ -1,4 +1,5 @@
-ghost use Rattle.std.specs.Prelude.{◌≡◌, ◌≤◌, ◌+◌, ◌-◌, ◌++◌, ◌∷◌, [], length, OnOk, OnErr};
+//! Items in order, with room that is asked for before it is used.
+ghost use Rattle.std.specs.Prelude.{◌≡◌, ◌<◌, ◌≤◌, ◌-◌, ◌++◌, ◌∷◌, [], length, OnOk, OnErr};
 
 use crate::memory::NoMemory;
 use std::alloc::Global;
@@ -54,11 +55,13 @@ impl<T> Row<T> {
         inner
     }
 
-    /// Makes room: afterwards the row takes at least `more` further items. `NoMemory` where memory
-    /// for them was refused.
+    /// Makes room: afterwards the row takes at least `more` further items, and never fewer than before.
+    /// `NoMemory` where memory for them was refused, which comes only where `more` is above the spare.
     pub fn reserve(&mut self, more: u64) -> Result<(), NoMemory>
         ensures ok { OnOk result (more ≤ self.new.spare) }
         ensures err { OnErr result (self.new.spare ≡ self.old.spare) }
+        ensures full { OnErr result (self.old.spare < more) }
+        ensures spare { self.old.spare ≤ self.new.spare }
         ensures kept { self.new.items ≡ self.old.items }
     {
         if more > self.spare {

@@ -1,5 +1,6 @@
+//! A sink over a writer of std.
 ghost use Rattle.std.specs.Prelude.{◌≡◌, IsErr};
-ghost use Rattle.io_ports.specs.MemStreams.{next_count};
+ghost use Rattle.io_ports.specs.Faults.{next_count};
 
 use crate::failed::Failed;
 use crate::sink::Sink;
@@ -20,10 +21,8 @@ impl<W> StdSink<W> {
     {
         StdSink { to, faults: 0 }
     }
-}
 
-impl<W> StdSink<W> {
-    // Counts one more failed call.
+    /// Counts one more failed call.
     fn fail(&mut self) -> Result<(), Failed>
         ensures err { IsErr result }
         ensures kept { self.new ≡ record self.old { faults = next_count self.old.faults } }
@@ -34,9 +33,7 @@ impl<W> StdSink<W> {
 }
 
 impl<W: Write> Sink for StdSink<W> {
-    ghost written = { λ s. W.contents s.to };
-
-    ghost faults = { λ s. s.faults };
+    ghost port = { λ s. record { bytes = W.contents s.to; faults = s.faults } };
 
     /// Writes until all is taken, then flushes. Each error, and a write that takes nothing, is a fault.
     fn put(&mut self, bytes: &[u8]) -> Result<(), Failed> {

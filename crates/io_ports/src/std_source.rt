@@ -1,3 +1,4 @@
+//! A source over a reader of std.
 ghost use Rattle.std.specs.Prelude.{◌≡◌};
 
 use crate::failed::Failed;
@@ -22,9 +23,7 @@ impl<R> StdSource<R> {
 }
 
 impl<R: Read> Source for StdSource<R> {
-    ghost left = { λ s. R.remaining s.from };
-
-    ghost faults = { λ s. s.faults };
+    ghost port = { λ s. record { bytes = R.remaining s.from; faults = s.faults } };
 
     /// Makes one read. Each error of it is a fault.
     fn take(&mut self, buf: &mut [u8]) -> Result<usize, Failed> {

@@ -1,3 +1,6 @@
+//! What no clause says of streams, bytes, texts and rows.
+mod adapters;
+
 use crate::{Bytes, MemSink, MemSource, Row, Sink, Source, StdSink, StdSource, Text};
 use std::collections::{BTreeMap, HashMap};
 use std::test::Fail;
@@ -48,6 +51,7 @@ fn a_row_takes_what_it_has_reserved(rt: HostRuntime) -> Result<(), Fail> {
     assert_eq!(rt; row.len(), 2);
     assert_eq!(rt; row.as_slice(), [7, 9].as_slice());
     assert!(rt; row.reserve(u64::MAX).is_err(), "more than any machine has");
+    assert!(rt; row.reserve(70_000).is_ok(), "ample memory");
     assert_eq!(rt; Row::from_vec(row.into_vec()).as_slice(), [7, 9].as_slice());
     Ok(())
 }
@@ -60,7 +64,7 @@ fn a_source_gives_pieces_and_loses_nothing_by_a_fault(rt: HostRuntime) -> Result
     assert_eq!(rt; buf, *b"abc");
     assert_eq!(rt; source.take(&mut buf).ok(), None);
     assert_eq!(rt; source.take(&mut buf[..2]).ok(), Some(2));
-    assert_eq!(rt; buf, *b"dec");
+    assert_eq!(rt; buf, *b"dec", "the byte behind the piece stays");
     assert_eq!(rt; source.take(&mut buf).ok(), Some(1));
     assert_eq!(rt; source.take(&mut buf).ok(), None);
     assert_eq!(rt; source.take(&mut buf).ok(), Some(0));

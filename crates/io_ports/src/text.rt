@@ -1,3 +1,4 @@
+//! A text, UTF-8 and owned.
 ghost use Rattle.std.specs.Prelude.{◌≡◌, IfOk, string_bytes};
 
 use crate::memory::NoMemory;

@@ -7,7 +7,8 @@ use Rattle.inode_spec.specs.Inodes.{lookups_of}
 use Rattle.mount_spec.specs.Errno.{enomem}
 use Rattle.mount_spec.specs.Laws.{GivesLater, IsCovered, Keeps, given}
 use Rattle.mount_spec.specs.Mount.{MountModel}
-use Rattle.mount_spec.specs.Plans.{Allows, Observation, Step, done}
+use Rattle.mount_model.specs.Observing.{Observed}
+use Rattle.mount_spec.specs.Plans.{Allows, Step, done}
 use Rattle.mount_spec.specs.Rules.{Rules, Taken}
 use Rattle.mount_spec.specs.View.{View, view_of}
 use Rattle.mount_laws.proofs.Keeping.{Keeps-same}
@@ -16,10 +17,10 @@ use Rattle.mount_laws.proofs.Sound.{IsSound, taken_by}
 
 pub record IsQuiet (rules : Rules) : Type 0 where
   pub plan_done : (taken : Taken) (answers : List Answer) → rules.plan taken answers ≡ done
-  pub stays : (taken : Taken) (mount : MountModel) (seen : List Observation) → rules.after taken mount seen ≡ mount
+  pub stays : (taken : Taken) (mount : MountModel) (seen : List Observed) → rules.after taken mount seen ≡ mount
   pub refuses : (view : View) → rules.refusal view ≢ Some enomem
-  pub answers : (taken : Taken) (mount : MountModel) (seen : List Observation) → rules.reply taken mount seen ≢ Error enomem
-  pub gives : (taken : Taken) (mount : MountModel) (seen : List Observation) (number : ℕ) → given (rules.reply taken mount seen) number ≡ 0
+  pub answers : (taken : Taken) (mount : MountModel) (seen : List Observed) → rules.reply taken mount seen ≢ Error enomem
+  pub gives : (taken : Taken) (mount : MountModel) (seen : List Observed) (number : ℕ) → given (rules.reply taken mount seen) number ≡ 0
 
 pub IsSound-quiet : (rules : Rules) → IsQuiet rules → IsSound rules (λ number. 0)
 IsSound-quiet rules quiet = record {

@@ -14,7 +14,8 @@ use Rattle.mount_spec.specs.Dispatch.{early, goes_on, is_among, is_idle, is_init
 use Rattle.mount_spec.specs.Errno.{einval, enomem, enosys, eproto}
 use Rattle.mount_spec.specs.Laws.{ClaimsCover, ClaimsProtect, GivesLater, IsCovered, Keeps, LeavesOthers, NeverOutOfMemory, StaysMount, given, given_back}
 use Rattle.mount_spec.specs.Mount.{IsMount, MountModel}
-use Rattle.mount_spec.specs.Plans.{Allows, Observation, Source, Step, answers_of, done}
+use Rattle.mount_model.specs.Observing.{Observed}
+use Rattle.mount_spec.specs.Plans.{Allows, Source, Step, answers_of, done}
 use Rattle.mount_spec.specs.Rules.{Rules, Taken}
 use Rattle.mount_spec.specs.View.{view_of}
 use Rattle.mount_laws.proofs.Guarding.{errors_differ}
@@ -85,7 +86,7 @@ goes mount request is on = record { is = is; free = free }
     free : (rules_of request).refusal (view_in mount request) ≡ None
     free = inner (not mount.negotiated && not (is_silent request) && not (is_init request)) _ (none (is_idle mount request) (early mount request) on)
 
-module _ (config : Config) (second : ℕ) (mount : MountModel) (request : Request) (seen : List Observation) (is : IsMount mount) where
+module _ (config : Config) (second : ℕ) (mount : MountModel) (request : Request) (seen : List Observed) (is : IsMount mount) where
   abbrev after : MountModel
   after = (rules_of request).after (taken_at config second mount request) mount seen
 
@@ -169,7 +170,7 @@ back_off mount (Forget node count) number off = by mount.negotiated off
     by false e = refl
 back_off mount _ number off = refl
 
-pub counts : (config : Config) (second : ℕ) (mount : MountModel) (request : Request) (seen : List Observation) (number : ℕ) → IsMount mount → number ≢ 1
+pub counts : (config : Config) (second : ℕ) (mount : MountModel) (request : Request) (seen : List Observed) (number : ℕ) → IsMount mount → number ≢ 1
     → lookups_of (mount_after config second mount request seen).table number
     ≡ (lookups_of mount.table number + given (reply_to config second mount request seen) number) - given_back mount request number
 counts config second mount request seen number is other = by (is_idle mount request) (early mount request) refl refl

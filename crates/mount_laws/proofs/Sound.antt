@@ -9,7 +9,8 @@ use Rattle.mount_model.specs.declared.config.Config.{Config}
 use Rattle.mount_spec.specs.Errno.{enomem}
 use Rattle.mount_spec.specs.Laws.{GivesLater, IsCovered, Keeps, given}
 use Rattle.mount_spec.specs.Mount.{IsMount, MountModel}
-use Rattle.mount_spec.specs.Plans.{Allows, IsHarmless, Observation, answers_of, done}
+use Rattle.mount_model.specs.Observing.{Observed}
+use Rattle.mount_spec.specs.Plans.{Allows, IsHarmless, answers_of, done}
 use Rattle.mount_spec.specs.Rules.{Rules, Taken}
 use Rattle.mount_spec.specs.View.{View, view_of}
 use Rattle.mount_laws.proofs.Sights.{LooksClaimed}
@@ -25,15 +26,15 @@ pub record GoesOn (rules : Rules) (mount : MountModel) : Type 0 where
 
 -- `back` is how many look-ups of a node the request gives back
 pub record IsSound (rules : Rules) (back : ℕ → ℕ) : Type 0 where
-  pub later : (config : Config) (second : ℕ) (mount : MountModel) (seen : List Observation) → GoesOn rules mount
+  pub later : (config : Config) (second : ℕ) (mount : MountModel) (seen : List Observed) → GoesOn rules mount
       → GivesLater mount (rules.after (taken_by rules config second mount) mount seen)
-  pub leaves : (config : Config) (second : ℕ) (mount : MountModel) (seen : List Observation) → GoesOn rules mount
+  pub leaves : (config : Config) (second : ℕ) (mount : MountModel) (seen : List Observed) → GoesOn rules mount
       → Keeps (rules.claims (view_of mount rules.looks)) mount (rules.after (taken_by rules config second mount) mount seen)
   pub sees : (config : Config) (second : ℕ) (mount : MountModel) → GoesOn rules mount → rules.plan (taken_by rules config second mount) [] ≢ done
       → LooksClaimed (rules.claims (view_of mount rules.looks)) mount rules.looks
   pub covers : (taken : Taken) (answers : List Answer) (op : Operation) → Allows (rules.plan taken answers) op → IsCovered (rules.claims taken.view) op
   pub refuses : (view : View) → rules.refusal view ≢ Some enomem
-  pub answers : (taken : Taken) (mount : MountModel) (seen : List Observation) → rules.reply taken mount seen ≢ Error enomem
-  pub counts : (config : Config) (second : ℕ) (mount : MountModel) (seen : List Observation) (number : ℕ) → number ≢ 1 → GoesOn rules mount
+  pub answers : (taken : Taken) (mount : MountModel) (seen : List Observed) → rules.reply taken mount seen ≢ Error enomem
+  pub counts : (config : Config) (second : ℕ) (mount : MountModel) (seen : List Observed) (number : ℕ) → number ≢ 1 → GoesOn rules mount
       → lookups_of (rules.after (taken_by rules config second mount) mount seen).table number
       ≡ (lookups_of mount.table number + given (rules.reply (taken_by rules config second mount) mount seen) number) - back number

@@ -3,6 +3,10 @@
 
 mod config;
 mod gate;
+mod journal;
+mod observing;
 
 pub use config::Config;
 pub use gate::{CallId, Gate, IdleGate, Place};
+pub use journal::{Fill, How, JournalEntry, Use};
+pub use observing::{Next, Observation};

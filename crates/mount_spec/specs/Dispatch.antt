@@ -11,7 +11,8 @@ use Rattle.fuse_requests.specs.declared.request.Request.TheVariants.{Lookup, For
 use Rattle.mount_model.specs.declared.config.Config.{Config}
 use Rattle.mount_spec.specs.Errno.{einval, enosys, eproto}
 use Rattle.mount_spec.specs.Mount.{MountModel}
-use Rattle.mount_spec.specs.Plans.{Observation, Plan, Source, Step, done}
+use Rattle.mount_model.specs.Observing.{Observed}
+use Rattle.mount_spec.specs.Plans.{Plan, Source, Step, done}
 use Rattle.mount_spec.specs.Requests.Create as create
 use Rattle.mount_spec.specs.Requests.Destroy as destroy
 use Rattle.mount_spec.specs.Requests.Forget as forget
@@ -112,12 +113,12 @@ abbrev pub claims : MountModel → Request → List Claim
 claims mount request = if goes_on mount request then (rules_of request).claims (view_in mount request) else []
 
 -- what it is answered
-abbrev pub reply_to : Config → ℕ → MountModel → Request → List Observation → Reply
+abbrev pub reply_to : Config → ℕ → MountModel → Request → List Observed → Reply
 reply_to config second mount request seen =
     if is_idle mount request then Silent
     else option_map_or Error (early mount request) ((rules_of request).reply (taken_at config second mount request) mount seen)
 
 -- what it leaves: a request that is refused leaves the mount as it was
-abbrev pub mount_after : Config → ℕ → MountModel → Request → List Observation → MountModel
+abbrev pub mount_after : Config → ℕ → MountModel → Request → List Observed → MountModel
 mount_after config second mount request seen =
     if goes_on mount request then (rules_of request).after (taken_at config second mount request) mount seen else mount

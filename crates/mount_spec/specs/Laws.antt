@@ -18,12 +18,13 @@ use Rattle.mount_spec.specs.Dispatch.{claims, early, goes_on, is_idle, mount_aft
 use Rattle.mount_spec.specs.Errno.{enomem}
 use Rattle.mount_spec.specs.Mount.{IsMount, MountModel}
 use Rattle.mount_spec.specs.OneThread.{Call, IsRun, Ending, RunState, first_state, performed, short, reply_by, reply_in, state_after_call, state_after_calls}
-use Rattle.mount_spec.specs.Plans.{Allows, Completes, Observation, Step, answers_of, done}
+use Rattle.mount_model.specs.Observing.{Observed}
+use Rattle.mount_spec.specs.Plans.{Allows, Completes, Step, answers_of, done}
 use Rattle.mount_spec.specs.View.{Named, Sight, View, current_at, kept_at, sight_at}
 
 -- ---- a mount stays one
 abbrev pub StaysMount : Type 0
-StaysMount = (config : Config) (second : ℕ) (mount : MountModel) (request : Request) (seen : List Observation)
+StaysMount = (config : Config) (second : ℕ) (mount : MountModel) (request : Request) (seen : List Observed)
     → IsMount mount → IsMount (mount_after config second mount request seen)
 
 -- ---- what calls leave to one another
@@ -43,13 +44,13 @@ pub record Keeps (claimed : List Claim) (mount after : MountModel) : Type 0 wher
       → fin.get after.table.current name ≡ fin.get mount.table.current name
 
 abbrev pub LeavesOthers : Type 0
-LeavesOthers = (config : Config) (second : ℕ) (mount : MountModel) (request : Request) (seen : List Observation)
+LeavesOthers = (config : Config) (second : ℕ) (mount : MountModel) (request : Request) (seen : List Observed)
     → IsMount mount → Keeps (claims mount request) mount (mount_after config second mount request seen)
 
 -- The law of claims: a call that asks something sees the same after another call is done with which its claims don't
 -- conflict, whatever that one observed; so it is refused no more than before, and asks and claims what it did.
 abbrev pub ClaimsProtect : Type 0
-ClaimsProtect = (config : Config) (second : ℕ) (mine : ℕ) (mount : MountModel) (request other : Request) (seen : List Observation)
+ClaimsProtect = (config : Config) (second : ℕ) (mine : ℕ) (mount : MountModel) (request other : Request) (seen : List Observed)
     → IsMount mount → plan config mine mount request [] ≢ done → AreApart (claims mount request) (claims mount other)
     → view_in (mount_after config second mount other seen) request ≡ view_in mount request
 
@@ -65,13 +66,13 @@ IsCovered claimed (copy from generation to stamp) = IsClaimed claimed (key.Name 
 IsCovered claimed (list prefix slash max after) = Unit {0}
 
 abbrev pub ClaimsCover : Type 0
-ClaimsCover = (config : Config) (second : ℕ) (mount : MountModel) (request : Request) (seen : List Observation) (op : Operation)
+ClaimsCover = (config : Config) (second : ℕ) (mount : MountModel) (request : Request) (seen : List Observed) (op : Operation)
     → Allows (plan config second mount request (answers_of seen)) op → IsCovered (claims mount request) op
 
 -- ---- replies
 -- a request that is performed to its end is never answered ENOMEM
 abbrev pub NeverOutOfMemory : Type 0
-NeverOutOfMemory = (config : Config) (second : ℕ) (mount : MountModel) (request : Request) (seen : List Observation)
+NeverOutOfMemory = (config : Config) (second : ℕ) (mount : MountModel) (request : Request) (seen : List Observed)
     → reply_to config second mount request seen ≢ Error enomem
 
 -- so the calls answered ENOMEM are those that stopped short

@@ -6,7 +6,8 @@ use Rattle.bucket_api.specs.declared.answers.Answer.{Answer}
 use Rattle.bucket_api.specs.declared.answers.Answer.TheVariants as answers
 use Rattle.bucket_api.specs.declared.objects.Pair.{Pair}
 use Rattle.bucket_api.specs.Operation.{insert}
-use Rattle.mount_spec.specs.Plans.{Observation, Step, done, ask}
+use Rattle.mount_model.specs.Observing.{Observed}
+use Rattle.mount_spec.specs.Plans.{Step, done, ask}
 
 -- the object is empty, and has these pairs
 abbrev pub plan : List ℕ → List Pair → ℕ → List Answer → Step
@@ -25,6 +26,6 @@ made_by moment (answers.Meta meta) = new meta moment
 made_by moment (answers.Precondition generation metageneration) = exists
 made_by moment _ = fault
 
-abbrev pub made : List Observation → Made
+abbrev pub made : List Observed → Made
 made [] = fault
 made (o ∷ more) = made_by o.moment o.answer

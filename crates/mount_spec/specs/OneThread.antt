@@ -16,7 +16,8 @@ use Rattle.mount_model.specs.declared.config.Config.{Config}
 use Rattle.mount_spec.specs.Dispatch.{mount_after, plan, reply_to, wants}
 use Rattle.mount_spec.specs.Errno.{enomem, estale}
 use Rattle.mount_spec.specs.Mount.{MountModel, first_mount, second_at}
-use Rattle.mount_spec.specs.Plans.{Observation, Plan, Source, Step, done, asked_by, Completes, IsHarmless, Walks}
+use Rattle.mount_model.specs.Observing.{Observed}
+use Rattle.mount_spec.specs.Plans.{Plan, Source, Step, done, asked_by, Completes, IsHarmless, Walks}
 
 -- A bucket as it was at first, and the log of what was made of it. No read stands in the log: what a file's source holds
 -- is known from the log (`content_of`). All is made under one lane, and nothing fails.
@@ -32,22 +33,22 @@ bucket_of store = state_at store.start store.log (length store.log)
 abbrev pub after_operation : Store → Operation → Store
 after_operation store op = record store { log = store.log ++ record { lane = 1; op = op; mode = modes.Done } ∷ [] }
 
-abbrev pub after_observation : Store → Observation → Store
+abbrev pub after_observation : Store → Observed → Store
 after_observation store o = after_operation store o.op
 
 -- the operations that were observed were made, in order
-abbrev pub after_operations : Store → List Observation → Store
+abbrev pub after_operations : Store → List Observed → Store
 after_operations store [] = store
 after_operations store (o ∷ more) = after_operations (after_operation store o.op) more
 
 -- The bucket, as it stands, answers what the step asks, reads left out, and the moment is the next place in the log.
-pub record Answers (store : Store) (step : Step) (o : Observation) : Type 0 where
+pub record Answers (store : Store) (step : Step) (o : Observed) : Type 0 where
   pub asked : asked_by step ≡ Some o.op
   pub moment : o.moment ≡ length store.log + 1
   pub answer : o.answer ≡ answer_to o.op (bucket_of store)
 
 -- the bucket supplies what the plan asks
-abbrev pub Observes : Plan → Store → List Observation → Type 0
+abbrev pub Observes : Plan → Store → List Observed → Type 0
 Observes = Walks Answers after_observation
 
 -- The mount and the bucket between two requests.
@@ -70,7 +71,7 @@ pub data Ending : Type 0 where
 pub record Call : Type 0 where
   pub unique : ℕ
   pub request : Request
-  pub seen : List Observation
+  pub seen : List Observed
   pub ending : Ending
 
 -- the clock of one thread stands still
@@ -82,18 +83,18 @@ abbrev pub plan_at : Config → RunState → Request → Plan
 plan_at config state request = plan config (second_of config) state.mount request
 
 -- A call that stops short made nothing but look-ups, copies and lists before, and would have asked something.
-pub record StopsShort (config : Config) (state : RunState) (request : Request) (seen : List Observation) : Type 0 where
+pub record StopsShort (config : Config) (state : RunState) (request : Request) (seen : List Observed) : Type 0 where
   pub asks : plan_at config state request [] ≢ done
-  pub harmless : All (λ (o : Observation). IsHarmless o.op) seen
+  pub harmless : All (λ (o : Observed). IsHarmless o.op) seen
 
 -- A stale call wants a byte of a source that is live no more.
-pub record IsStale (state : RunState) (request : Request) (seen : List Observation) : Type 0 where
+pub record IsStale (state : RunState) (request : Request) (seen : List Observed) : Type 0 where
   pub source : Source
   pub wanted : wants state.mount request ≡ Some source
   pub gone : object_of (bucket_of state.store) source.name source.generation ≡ None
   pub silent : seen ≡ []
 
-abbrev pub Ends : Config → RunState → Request → List Observation → Ending → Type 0
+abbrev pub Ends : Config → RunState → Request → List Observed → Ending → Type 0
 Ends config state request seen performed = Completes (plan_at config state request) seen
 Ends config state request seen short = StopsShort config state request seen
 Ends config state request seen stale = IsStale state request seen
@@ -123,7 +124,7 @@ state_after_call config state call = record { mount = mount_by config state call
 
 -- One more request is performed, or ends otherwise: what it is answered, and the state that it leaves.
 pub record Performs (config : Config) (state : RunState) (request : Request) (answer : Reply) (after : RunState) : Type 0 where
-  pub seen : List Observation
+  pub seen : List Observed
   pub ending : Ending
   pub lawful : IsLawful config state (record { unique = 0; request = request; seen = seen; ending = ending })
   pub answered : answer ≡ reply_in config state (record { unique = 0; request = request; seen = seen; ending = ending })

@@ -2,15 +2,10 @@
 use Rattle.std.specs.Prelude.{◌≡◌, ℕ, ◌+◌, ◌≤◌, List, [], ◌∷◌, map, Option, Some, None, ◌⊎◌}
 use Rattle.bucket_api.specs.declared.answers.Answer.{Answer}
 use Rattle.bucket_api.specs.Operation.{Operation, read, insert, update, delete}
+use Rattle.mount_model.specs.Observing.{Observed}
 
--- An operation that was made on the bucket, its moment and its answer.
-pub record Observation : Type 0 where
-  pub op : Operation
-  pub moment : ℕ
-  pub answer : Answer
-
-abbrev pub answers_of : List Observation → List Answer
-answers_of seen = map (λ (o : Observation). o.answer) seen
+abbrev pub answers_of : List Observed → List Answer
+answers_of seen = map (λ (o : Observed). o.answer) seen
 
 -- A generation of an object, as a file or symlink shows it: the source of its content, and the size of that.
 pub record Source : Type 0 where
@@ -66,11 +61,11 @@ IsHarmless op = Unit {0}
 -- A walk along a plan: what is observed is supplied at each step in turn, by whoever supplies: a bucket as it stands, or
 -- what a history tells. `Supplies s step o` says that the observation is what is supplied at the step in state s, and
 -- `next s o` is the state then.
-module _ {S : Type 0} (Supplies : S → Step → Observation → Type 0) (next : S → Observation → S) where
-  abbrev pub Walks : Plan → S → List Observation → Type 0
+module _ {S : Type 0} (Supplies : S → Step → Observed → Type 0) (next : S → Observed → S) where
+  abbrev pub Walks : Plan → S → List Observed → Type 0
   Walks plan s [] = Unit {0}
   Walks plan s (o ∷ more) = Supplies s (plan []) o × Walks (plan_after plan o.answer) (next s o) more
 
 -- the plan may end where these were observed
-abbrev pub Completes : Plan → List Observation → Type 0
+abbrev pub Completes : Plan → List Observed → Type 0
 Completes plan seen = MayEnd (plan (answers_of seen))

@@ -6,7 +6,8 @@ use Rattle.claim_spec.specs.declared.claim.Claim.{Claim}
 use Rattle.fuse_replies.specs.declared.reply.Reply.{Reply}
 use Rattle.mount_model.specs.declared.config.Config.{Config}
 use Rattle.mount_spec.specs.Mount.{MountModel}
-use Rattle.mount_spec.specs.Plans.{Observation, Plan, Source}
+use Rattle.mount_model.specs.Observing.{Observed}
+use Rattle.mount_spec.specs.Plans.{Plan, Source}
 use Rattle.mount_spec.specs.View.{Looks, View}
 
 -- What a request has from its take: the settings, the second, which stamps what it asks, and its view.
@@ -27,8 +28,8 @@ pub record Rules : Type 0 where
   -- the keys of records that it looks for, in order: an object's path, or a directory's path and a slash
   pub keys : View → List (List ℕ)
   -- what it is answered, and what it leaves of the mount as it stands at its end
-  pub reply : Taken → MountModel → List Observation → Reply
-  pub after : Taken → MountModel → List Observation → MountModel
+  pub reply : Taken → MountModel → List Observed → Reply
+  pub after : Taken → MountModel → List Observed → MountModel
 
 -- nowhere
 abbrev pub nowhere : Looks

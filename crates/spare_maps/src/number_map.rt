@@ -1,4 +1,5 @@
-ghost use Rattle.std.specs.Prelude.{◌≡◌, ◌≤◌, ◌-◌, OnOk, OnErr, IsSome, Some};
+//! A map from numbers to values, with room of its own.
+ghost use Rattle.std.specs.Prelude.{◌≡◌, ◌<◌, ◌≤◌, ◌-◌, OnOk, OnErr, IsSome, Some};
 ghost use Rattle.std.specs.Borrow.{sem};
 ghost use Rattle.std.specs.FinMap as fin;
 ghost use Rattle.std.specs.Option.{option_copied};
@@ -45,10 +46,13 @@ impl<V: Drop> NumberMap<V> {
         }
     }
 
-    /// Makes room: afterwards the map takes at least `more` further keys. `NoMemory` where memory for them was refused.
+    /// Makes room: afterwards the map takes at least `more` further keys, and never fewer than before. `NoMemory` where
+    /// memory for them was refused, which comes only where `more` is above the spare.
     pub fn reserve(&mut self, more: u64) -> Result<(), NoMemory>
         ensures ok { OnOk result (more ≤ self.new.spare) }
         ensures err { OnErr result (self.new.spare ≡ self.old.spare) }
+        ensures full { OnErr result (self.old.spare < more) }
+        ensures spare { self.old.spare ≤ self.new.spare }
         ensures kept { self.new.map ≡ self.old.map }
     {
         if more > self.room {

@@ -1,3 +1,4 @@
+//! What no clause says of the maps: that memory for a spare is there.
 use crate::{NameMap, NumberMap};
 use io_ports::Text;
 use std::test::Fail;

@@ -16,7 +16,8 @@ use Rattle.mount_spec.specs.Claiming.{shares_node, shares_name}
 use Rattle.mount_spec.specs.Errno.{eio, enoent}
 use Rattle.mount_spec.specs.Guards.{in_directory, part_refusal, path_in}
 use Rattle.mount_spec.specs.Mount.{MountModel, NodeTable}
-use Rattle.mount_spec.specs.Plans.{Observation, Step, done, ask}
+use Rattle.mount_model.specs.Observing.{Observed}
+use Rattle.mount_spec.specs.Plans.{Step, done, ask}
 use Rattle.mount_spec.specs.Rules.{Rules, at_node}
 use Rattle.mount_spec.specs.Showing.{Numbered, shown_by, after_showing, directory_by, after_directory}
 use Rattle.mount_spec.specs.View.{View}
@@ -74,7 +75,7 @@ found_at moment (answers.Meta meta) = object meta moment
 found_at moment answers.NotFound = nothing
 found_at moment _ = fault
 
-abbrev pub found : List Observation → Found
+abbrev pub found : List Observed → Found
 found [] = fault
 found (o ∷ []) = found_by (probed o.answer)
 found (o ∷ p ∷ more) = found_at p.moment p.answer

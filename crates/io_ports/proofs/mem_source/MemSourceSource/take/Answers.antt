@@ -11,7 +11,7 @@ returns-clause-bytes c =
     let count : ℕ = c.min-count.result in
     let here : c.args.self.now.left ≡ drop at bytes = ap (λ (s : MemLeft). s.left) (sym c.self.view_is) in
     let rest : c.split_at.result.1.now ≡ drop at bytes = c.split_at.ensures.back ∙ ap (drop at) c.as_slice.ensures.value in
-    let given : take count (drop at bytes) ≡ take count c.copy_front.new.buf = sym (c.copy_front.ensures ∙ ap (take count) rest) in (
+    let given : take count (drop at bytes) ≡ take count c.copy_front.new.buf = sym (c.copy_front.ensures.front ∙ ap (take count) rest) in (
       here ∙ drop-next at count bytes ∙ ap (λ front. front ++ drop (at + count) bytes) given,
       λ none roomy.
           let given_all : count ≡ min (min (length (drop at bytes)) (length c.copy_front.new.buf)) c.self.inside.piece = omega (arith, ap length rest) in

@@ -1,3 +1,4 @@
+-- A writer takes the bytes in pieces, each behind the one before.
 use Rattle.std.proofs.Common.{length, ◌-◌, ◌≡◌, ◌≤◌, take}
 use Rattle.std.specs.Io.KnownBytes.{Appends}
 use Rattle.io_ports.proofs.std_sink.StdSinkSink.put.Given as goal

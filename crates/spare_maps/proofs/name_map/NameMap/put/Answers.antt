@@ -1,3 +1,4 @@
+-- A put is the insertion of the bytes of the name.
 use Rattle.std.proofs.Common.{Some, string_bytes, ap, ◌∙◌}
 use Rattle.std.proofs.lemmas.Map.Text.{hash_map_updates_text}
 use Rattle.std.proofs.lemmas.Result.{IfOk-at_ok}

@@ -1,3 +1,4 @@
+-- What was under a name is given, and the name is gone.
 use Rattle.std.proofs.Common.{None, sym, ap, ◌∙◌}
 use Rattle.std.proofs.lemmas.Map.Text.{hash_map_updates_text}
 use Rattle.std.specs.FinMap as fin

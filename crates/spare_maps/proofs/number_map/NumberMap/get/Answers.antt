@@ -1,3 +1,4 @@
+-- What is found under a number.
 use Rattle.std.proofs.Common.{sym, ap, ◌∙◌}
 use Rattle.std.specs.FinMap as fin
 use Rattle.spare_maps.proofs.Views.{get-numbers}

@@ -1,3 +1,4 @@
+-- A put is the insertion of the number.
 use Rattle.std.proofs.Common.{Some, ap, ◌∙◌, nat_eq}
 use Rattle.std.proofs.lemmas.Result.{IfOk-at_ok}
 use Rattle.std.specs.FinMap as fin

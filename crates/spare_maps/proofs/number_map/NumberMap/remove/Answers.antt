@@ -1,3 +1,4 @@
+-- What was under a number is given, and the number is gone.
 use Rattle.std.proofs.Common.{sym, ap, ◌∙◌}
 use Rattle.std.specs.FinMap as fin
 use Rattle.spare_maps.proofs.Views.{get-numbers, numbers-remove}

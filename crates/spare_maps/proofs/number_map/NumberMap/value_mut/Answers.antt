@@ -1,3 +1,4 @@
+-- What is written through the lent value stands under its number.
 use Rattle.std.proofs.Common.{◌≡◌, nat_eq, slice_get, is_some, refl, sym, ap, ◌∙◌}
 use Rattle.std.proofs.lemmas.Option.{MatchOption-at_some}
 use Rattle.std.specs.Bool.{⊤}
