@@ -13,7 +13,7 @@ use Rattle.mount_model.specs.declared.config.Config.{Config}
 use Rattle.mount_spec.specs.OneThread.{RunState, Performs, Serves, BeginsServing}
 use Rattle.mount_spec.proofs.RunLaws.{BeginsServing-after, BeginsServing-more, BeginsServing-nothing, BeginsServing-taken, BeginsServing-whole, Serves-append, Serves-nil, Serves-request}
 use Rattle.gcsmount.specs.Answers.{Answers, AnswersAll, AnswersSome, IsCause}
-use Rattle.gcsmount.specs.Ports.{Port}
+use Rattle.io_ports.specs.Ports.{Port}
 use Rattle.gcsmount.specs.SerialState.{SerialState}
 use Rattle.gcsmount.specs.declared.answer.Stop.{Stop}
 use Rattle.gcsmount.specs.declared.answer.Stop.TheVariants.{WriteFault, NoMemory}
@@ -30,11 +30,11 @@ AnswersSome-nothing mount frames sink = record {
 pub Answers-put : {U : Type 0} (mount mount' : SerialState) (frames : List (List ℕ)) (text : List ℕ) (sink sink' : Port) (r : Result U Stop)
     → mount'.config ≡ mount.config → Serves mount.config mount.state frames text mount'.state
     → OnOk r (Appends sink.bytes sink'.bytes text) → OnErr r (AppendsPrefix sink.bytes sink'.bytes text)
-    → IfErr r (λ stop. (stop ≡ WriteFault) × Rose sink.faults sink'.faults)
+    → IfErr r (λ stop. (stop ≡ WriteFault) × Rose sink.faults sink'.faults) → OnOk r (sink'.faults ≡ sink.faults)
     → Answers mount mount' frames sink sink' r
-Answers-put mount mount' frames text sink sink' (Ok _) config served all some cause =
-    record { put = text; appended = all; config = config; served = served }
-Answers-put mount mount' frames text sink sink' (Err stop) config served all some cause = (
+Answers-put mount mount' frames text sink sink' (Ok _) config served all some cause held =
+    record { put = text; appended = all; config = config; served = served; faults = held }
+Answers-put mount mount' frames text sink sink' (Err stop) config served all some cause held = (
   record {
     put = take some.0 text;
     appended = some.1;
@@ -52,13 +52,10 @@ Serves-written config state after frame request reply (Ok text) asked done is =
     (Serves-request config state after frame reply (subst (λ q. Performs config state q reply after) asked done))
 Serves-written config state after frame request reply (Err e) asked done is = tt
 
--- a count that rose later rose from the beginning on
-pub Rose-later : (before between now : ℕ) → before ≤ between → Rose between now → Rose before now
-Rose-later before between now later rose = omega arith
-
-pub IsCause-later : (stop : Stop) (before between now : Port) → before.faults ≤ between.faults → IsCause stop between now → IsCause stop before now
-IsCause-later WriteFault before between now later rose = Rose-later before.faults between.faults now.faults later rose
-IsCause-later NoMemory before between now later _ = tt
+-- a stop says of a sink whose count had stayed what it says from the beginning on
+pub IsCause-later : (stop : Stop) (before between now : Port) → between.faults ≡ before.faults → IsCause stop between now → IsCause stop before now
+IsCause-later WriteFault before between now held rose = subst (λ count. Rose count now.faults) held rose
+IsCause-later NoMemory before between now held same = same ∙ held
 
 -- no frame was answered
 pub AnswersAll-nothing : (mount : SerialState) (sink : Port) → AnswersAll mount mount [] sink sink
@@ -67,6 +64,7 @@ AnswersAll-nothing mount sink = record {
   appended = Appends-nil sink.bytes;
   config = refl;
   served = Serves-nil mount.config mount.state;
+  faults = refl;
 }
 
 -- some frames were answered, and then some more
@@ -79,6 +77,7 @@ AnswersAll-then mount between mount' first then sink amid sink' one two = record
   served =
       Serves-append mount.config mount.state between.state mount'.state first then one.put two.put one.served
       (subst (λ config. Serves config between.state then two.put mount'.state) one.config two.served);
+  faults = two.faults ∙ one.faults;
 }
 
 -- some frames were answered, and then the replies to some more begun
@@ -100,13 +99,13 @@ AnswersSome-more mount first then sink sink' one =
 
 -- among waiting frames, the first ones were answered, and then the next one stopped
 pub Answers-stopped : (mount between : SerialState) (done rest waiting : List (List ℕ)) (frame : List ℕ) (sink amid sink' : Port) (stop : Stop)
-    → waiting ≡ done ++ frame ∷ rest → AnswersAll mount between done sink amid → sink.faults ≤ amid.faults
+    → waiting ≡ done ++ frame ∷ rest → AnswersAll mount between done sink amid
     → AnswersSome between (frame ∷ []) amid sink' → IsCause stop amid sink'
     → AnswersSome mount waiting sink sink' × IsCause stop sink sink'
-Answers-stopped mount between done rest waiting frame sink amid sink' stop is one later some cause = (
+Answers-stopped mount between done rest waiting frame sink amid sink' stop is one some cause = (
   subst (λ frames. AnswersSome mount frames sink sink') (sym is)
       (AnswersSome-then mount between done (frame ∷ rest) sink amid sink' one (AnswersSome-more between (frame ∷ []) rest amid sink' some)),
-  IsCause-later stop sink amid sink' later cause,
+  IsCause-later stop sink amid sink' one.faults cause,
 )
 
 -- all replies to frames are a prefix of them

@@ -7,8 +7,8 @@ use Rattle.fuse_frames.specs.Cut.{Cuts, IsBad}
 use Rattle.fuse_frames.proofs.CutLemmas.{cuts_prefix, cuts_unique}
 use Rattle.fuse_frames.proofs.FrontLemmas.{bad_append, bad_told, unfinished_bad}
 use Rattle.mount_model.specs.declared.config.Config.{Config}
-use Rattle.gcsmount.specs.Ports.{Port}
-use Rattle.gcsmount.specs.Serve.{EndsBy, IsDoneOrNoMemory, IsGood, Streams, longest_input}
+use Rattle.io_ports.specs.Ports.{Port}
+use Rattle.gcsmount.specs.Serve.{CountsReads, CountsWrites, EndsBy, IsDoneOrNoMemory, IsGood, Streams, longest_input}
 use Rattle.gcsmount.specs.Tool.{EndsWith}
 use Rattle.gcsmount.proofs.ServeLaws.{take_all}
 use Rattle.gcsmount.specs.declared.serve_end.ServeEnd.{ServeEnd}
@@ -46,7 +46,7 @@ pub Streams-complete : (config : Config) (end : ServeEnd) (source source' sink s
     → Streams config end source source' sink sink' → source.bytes ≡ Some input → IsGood input
     → (Rose source.faults source'.faults → ⊥) → (Rose sink.faults sink'.faults → ⊥) → IsDoneOrNoMemory end
 Streams-complete config end source source' sink sink' input streams is good source_held sink_held =
-    cases end streams.ended
+    cases end streams.ended streams.reads streams.writes
   where
     consumed : Consumes (Some input) source'.bytes streams.taken
     consumed = subst (λ left. Consumes left source'.bytes streams.taken) is streams.consumed
@@ -54,17 +54,17 @@ Streams-complete config end source source' sink sink' input streams is good sour
     split : (rest : List ℕ) × (input ≡ streams.taken ++ rest)
     split = split_of input source'.bytes streams.taken consumed
 
-    cases : (end : ServeEnd) → EndsBy config end source source' sink sink' streams.taken streams.put → IsDoneOrNoMemory end
-    cases Ended ends = tt
-    cases NoMemory ends = tt
-    cases ReadFault ends = absurd (source_held ends.1)
-    cases WriteFault ends = absurd (sink_held ends.0)
-    cases TooLong ends = absurd (omega (arith, ends.0, good.fits, ap length split.1, length-append streams.taken split.0))
-    cases (Refused number at) (rest, answered, placed, inl bad) =
+    cases : (end : ServeEnd) → EndsBy config end source' streams.taken streams.put → CountsReads end source source' → CountsWrites end sink sink' → IsDoneOrNoMemory end
+    cases Ended ends reads writes = tt
+    cases NoMemory ends reads writes = tt
+    cases ReadFault ends reads writes = absurd (source_held reads)
+    cases WriteFault ends reads writes = absurd (sink_held writes)
+    cases TooLong ends reads writes = absurd (omega (arith, ends.0, good.fits, ap length split.1, length-append streams.taken split.0))
+    cases (Refused number at) (rest, answered, placed, inl bad) reads writes =
         absurd (bad_is_no_front _ _ rest answered.frames good.frames (inl bad.1) answered.cut (subst (λ all. Cuts all good.frames []) (front_of input streams.taken split.0 split.1) good.cut))
-    cases (Refused number at) (rest, answered, placed, inr (inl bad)) =
+    cases (Refused number at) (rest, answered, placed, inr (inl bad)) reads writes =
         absurd (bad_is_no_front _ _ rest answered.frames good.frames (inr bad.1) answered.cut (subst (λ all. Cuts all good.frames []) (front_of input streams.taken split.0 split.1) good.cut))
-    cases (Refused number at) (rest, answered, placed, inr (inr (number_is, sound, waits, (fits, at_end)))) =
+    cases (Refused number at) (rest, answered, placed, inr (inr (number_is, sound, waits, (fits, at_end)))) reads writes =
         let all : take longest_input streams.taken ≡ input = take_all longest_input streams.taken fits ∙ sym (whole_of input source'.bytes streams.taken consumed at_end) in
         absurd (waits (cuts_unique (subst (λ front. Cuts front answered.frames rest) all answered.cut) good.cut).1)
 

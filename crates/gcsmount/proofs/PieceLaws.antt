@@ -12,9 +12,9 @@ use Rattle.mount_model.specs.declared.config.Config.{Config}
 use Rattle.mount_spec.specs.OneThread.{Serves, BeginsServing, first_state}
 use Rattle.mount_spec.proofs.RunLaws.{Serves-append, BeginsServing-after}
 use Rattle.gcsmount.specs.Answers.{AnswersAll, AnswersSome, IsCause}
-use Rattle.gcsmount.specs.Ports.{Port}
+use Rattle.io_ports.specs.Ports.{Port}
 use Rattle.gcsmount.specs.SerialState.{SerialState}
-use Rattle.gcsmount.specs.Serve.{Answered, PartlyAnswered}
+use Rattle.gcsmount.specs.Serve.{Answered, CountsWrites, PartlyAnswered}
 use Rattle.gcsmount.specs.Serving.{HasServed, ServesPiece, PieceEnds, EndsIn, end_of, end_by}
 use Rattle.gcsmount.proofs.AnswerLaws.{AnswersAll-some, AnswersSome-more}
 use Rattle.gcsmount.specs.declared.answer.Stop.{Stop}
@@ -25,10 +25,14 @@ abbrev pub emptied : Cutter → Cutter
 emptied cutter = record cutter { given = place cutter; held = [] }
 
 -- what a stop says of all input up to then
-stop_ends : (config : Config) (stop : Stop) (sink sink' : Port) (input put : List ℕ)
-    → PartlyAnswered config input put → IsCause stop sink sink' → PieceEnds config (end_by stop) sink sink' input put
-stop_ends config stops.WriteFault sink sink' input put partly cause = (cause, partly)
-stop_ends config stops.NoMemory sink sink' input put partly cause = partly
+stop_ends : (config : Config) (stop : Stop) (input put : List ℕ) → PartlyAnswered config input put → PieceEnds config (end_by stop) input put
+stop_ends config stops.WriteFault input put partly = partly
+stop_ends config stops.NoMemory input put partly = partly
+
+-- what a stop says of the sink's count of faults
+stop_writes : (stop : Stop) (sink sink' : Port) → IsCause stop sink sink' → CountsWrites (end_by stop) sink sink'
+stop_writes stops.WriteFault sink sink' cause = cause
+stop_writes stops.NoMemory sink sink' cause = cause
 
 module _ (config : Config) (input put : List ℕ) (old : Cutter) (mount : SerialState) (so_far : HasServed config input put old mount) (piece : List ℕ) where
   -- what was pending is what is left, since no frame waits
@@ -86,7 +90,7 @@ module _ (config : Config) (input put : List ℕ) (old : Cutter) (mount : Serial
       let begun = AnswersSome-more mount mid.held cut.0 sink sink' some in
       let partly : PartlyAnswered config (input ++ piece) (put ++ begun.put) =
       record { frames = so_far.frames ++ (mid.held ++ cut.0); rest = cut.1; cut = cut.2; begun = begun_on (mid.held ++ cut.0) sink sink' begun } in
-      record { more = begun.put; appended = begun.appended; ends = stop_ends config stop sink sink' (input ++ piece) (put ++ begun.put) partly cause }
+      record { more = begun.put; appended = begun.appended; ends = stop_ends config stop (input ++ piece) (put ++ begun.put) partly; writes = stop_writes stop sink sink' cause }
 
   -- answering the frames that waited came to its end
   pub ServesPiece-answered : {U : Type 0} (r : Result U CutFault) (mid new : Cutter) (mount' : SerialState) (sink sink' : Port)
@@ -105,6 +109,7 @@ module _ (config : Config) (input put : List ℕ) (old : Cutter) (mount : Serial
       settings = all.config ∙ so_far.settings;
       served = served_on mid.held mount' sink sink' all;
     });
+    faults = all.faults;
   }
   ServesPiece-answered {U} (Err NoMemory) mid new mount' sink sink' fed all is =
       let cut = fed_cut {U = U} (Err NoMemory) mid fed in
@@ -113,15 +118,18 @@ module _ (config : Config) (input put : List ℕ) (old : Cutter) (mount : Serial
         more = begun.put;
         appended = begun.appended;
         ends = record { frames = so_far.frames ++ (mid.held ++ cut.0); rest = cut.1; cut = cut.2; begun = begun_on (mid.held ++ cut.0) sink sink' begun };
+        writes = all.faults;
       }
   ServesPiece-answered (Err (LenBelow40 at)) mid new mount' sink sink' fed all is = record {
     more = all.put;
     appended = all.appended;
     ends = (fed.rest, answered_on mid.held fed.rest mount' sink sink' fed.cut all, fed.at ∙ placed mid.held mid.given fed.given, inl (refl, fed.bad));
+    writes = all.faults;
   }
   ServesPiece-answered (Err (LenOver at)) mid new mount' sink sink' fed all is = record {
     more = all.put;
     appended = all.appended;
     ends = (fed.rest, answered_on mid.held fed.rest mount' sink sink' fed.cut all, fed.at ∙ placed mid.held mid.given fed.given, inr (refl, fed.bad));
+    writes = all.faults;
   }
   ServesPiece-answered (Err (Truncated at)) mid new mount' sink sink' fed all is = absurd fed

@@ -12,9 +12,9 @@ use Rattle.fuse_frames.proofs.FrontLemmas.{sound_not_bad, unfinished_untold}
 use Rattle.mount_model.specs.declared.config.Config.{Config}
 use Rattle.mount_spec.specs.OneThread.{Serves, first_state}
 use Rattle.mount_spec.proofs.RunLaws.{BeginsServing-nothing, Serves-nil}
-use Rattle.gcsmount.specs.Ports.{Port}
+use Rattle.io_ports.specs.Ports.{Port}
 use Rattle.gcsmount.specs.SerialState.{SerialState}
-use Rattle.gcsmount.specs.Serve.{Answered, EndsBy, Streams, longest_input}
+use Rattle.gcsmount.specs.Serve.{Answered, CountsReads, CountsWrites, EndsBy, Streams, longest_input}
 use Rattle.gcsmount.specs.Serving.{EndsIn, FinishesBy, HasServed, PieceEnds, Progress, ServesOn, StopsAfter}
 use Rattle.gcsmount.specs.declared.serve_end.ServeEnd.{ServeEnd}
 use Rattle.gcsmount.specs.declared.serve_end.ServeEnd.TheVariants.{Ended, Refused, ReadFault, WriteFault, NoMemory, TooLong}
@@ -42,12 +42,12 @@ cut_at_longest input buffer taken count counted is within counts =
     ∙ ap (λ back. input ++ back) (take_take rest count buffer ∙ ap (λ n. take n buffer) (sym counts)))
 
 -- what an end within a piece says of the stream
-pub stream_ends : (config : Config) (end : ServeEnd) (sink sink' : Port) (cut whole put : List ℕ) → cut ≡ take longest_input whole
-    → PieceEnds config end sink sink' cut put → (source source' : Port) → EndsBy config end source source' sink sink' whole put
-stream_ends config end sink sink' cut whole put is ends source source' =
-    cases end (subst (λ input. PieceEnds config end sink sink' input put) is ends)
+pub stream_ends : (config : Config) (end : ServeEnd) (cut whole put : List ℕ) → cut ≡ take longest_input whole
+    → PieceEnds config end cut put → (source' : Port) → EndsBy config end source' whole put
+stream_ends config end cut whole put is ends source' =
+    cases end (subst (λ input. PieceEnds config end input put) is ends)
   where
-    cases : (end : ServeEnd) → PieceEnds config end sink sink' (take longest_input whole) put → EndsBy config end source source' sink sink' whole put
+    cases : (end : ServeEnd) → PieceEnds config end (take longest_input whole) put → EndsBy config end source' whole put
     cases (Refused number at) (rest, answered, placed, inl bad) = (rest, answered, placed, inl bad)
     cases (Refused number at) (rest, answered, placed, inr bad) = (rest, answered, placed, inr (inl bad))
     cases WriteFault ends = ends
@@ -56,20 +56,24 @@ stream_ends config end sink sink' cut whole put is ends source source' =
     cases ReadFault ends = absurd ends
     cases TooLong ends = absurd ends
 
--- an end, told from earlier moments of the source and the sink
-EndsBy-later : (config : Config) (end : ServeEnd) (source amid source' sink between sink' : Port) (taken put : List ℕ)
-    → source.faults ≤ amid.faults → sink.faults ≤ between.faults
-    → EndsBy config end amid source' between sink' taken put → EndsBy config end source source' sink sink' taken put
-EndsBy-later config Ended source amid source' sink between sink' taken put later after ends = ends
-EndsBy-later config (Refused number at) source amid source' sink between sink' taken put later after ends = ends
-EndsBy-later config ReadFault source amid source' sink between sink' taken put later after ends =
-    let rose : Rose source.faults source'.faults = let h : Rose amid.faults source'.faults = ends.1 in omega arith in
-    (ends.0, rose, ends.2, ends.3, ends.4)
-EndsBy-later config WriteFault source amid source' sink between sink' taken put later after ends =
-    let rose : Rose sink.faults sink'.faults = let h : Rose between.faults sink'.faults = ends.0 in omega arith in
-    (rose, ends.1)
-EndsBy-later config NoMemory source amid source' sink between sink' taken put later after ends = ends
-EndsBy-later config TooLong source amid source' sink between sink' taken put later after ends = ends
+-- a source whose count stayed counts no failed read at an end within a piece
+piece_reads : (config : Config) (end : ServeEnd) (input put : List ℕ) → PieceEnds config end input put
+    → (source source' : Port) → source'.faults ≡ source.faults → CountsReads end source source'
+piece_reads config (Refused number at) input put ends source source' held = held
+piece_reads config WriteFault input put ends source source' held = held
+piece_reads config NoMemory input put ends source source' held = held
+piece_reads config Ended input put ends source source' held = held
+piece_reads config ReadFault input put ends source source' held = absurd ends
+piece_reads config TooLong input put ends source source' held = held
+
+-- what an end says of a sink whose count had stayed is what it says from the beginning on
+writes_later : (end : ServeEnd) (sink between sink' : Port) → between.faults ≡ sink.faults → CountsWrites end between sink' → CountsWrites end sink sink'
+writes_later (Refused number at) sink between sink' held writes = writes ∙ held
+writes_later WriteFault sink between sink' held writes = subst (λ count. Rose count sink'.faults) held writes
+writes_later NoMemory sink between sink' held writes = writes ∙ held
+writes_later Ended sink between sink' held writes = writes ∙ held
+writes_later ReadFault sink between sink' held writes = writes ∙ held
+writes_later TooLong sink between sink' held writes = writes ∙ held
 
 -- an end within a piece is an end of the stream, though one more byte may have been taken
 pub EndsIn-stops : (config : Config) (end : ServeEnd) (input put buffer : List ℕ) (taken count counted : ℕ) (sink sink' : Port)
@@ -78,7 +82,9 @@ pub EndsIn-stops : (config : Config) (end : ServeEnd) (input put buffer : List �
 EndsIn-stops config end input put buffer taken count counted sink sink' is within counts ends = record {
   more = ends.more;
   appended = ends.appended;
-  ends = stream_ends config end sink sink' _ _ (put ++ ends.more) (cut_at_longest input buffer taken count counted is within counts) ends.ends;
+  ends = stream_ends config end _ _ (put ++ ends.more) (cut_at_longest input buffer taken count counted is within counts) ends.ends;
+  reads = piece_reads config end _ _ ends.ends;
+  writes = ends.writes;
 }
 
 -- a byte past the longest input was taken
@@ -92,7 +98,7 @@ ServesOn-past config input put buffer taken count counted cutter mount sink sink
     record {
       more = on.more;
       appended = on.appended;
-      ends = λ source source'. (
+      ends = λ source'. (
         long,
         cutter.rest,
         on.on.sound,
@@ -103,6 +109,8 @@ ServesOn-past config input put buffer taken count counted cutter mount sink sink
           served = on.on.served;
         },
       );
+      reads = λ source source' held. held;
+      writes = on.faults;
     }
 
 -- no byte past the longest input was taken
@@ -138,8 +146,8 @@ Progress-first config source sink cutter mount new settings first = record {
   appended = Appends-nil sink.bytes;
   counted = refl;
   within = omega arith;
-  source_later = omega arith;
-  sink_later = omega arith;
+  source_held = refl;
+  sink_held = refl;
   served = subst (λ c. HasServed config [] [] c mount) (sym new) (record {
     frames = [];
     cut = cuts_nothing;
@@ -154,32 +162,34 @@ Progress-first config source sink cutter mount new settings first = record {
 module _ (config : Config) (source amid sink between : Port) (taken : ℕ) (cutter : Cutter) (mount : SerialState) (so_far : Progress config source amid sink between taken cutter mount) where
   -- one more piece was served
   pub Progress-on : (source' sink' : Port) (piece : List ℕ) (count : ℕ) (cutter' : Cutter) (mount' : SerialState)
-      → Consumes amid.bytes source'.bytes piece → length piece ≡ count → amid.faults ≤ source'.faults → between.faults ≤ sink'.faults
+      → Consumes amid.bytes source'.bytes piece → length piece ≡ count → source'.faults ≡ amid.faults
       → length (so_far.input ++ piece) ≤ longest_input → ServesOn config so_far.input so_far.put piece cutter' mount' between sink'
       → Progress config source source' sink sink' (taken + count) cutter' mount'
-  Progress-on source' sink' piece count cutter' mount' consumed counts later after fits on = record {
+  Progress-on source' sink' piece count cutter' mount' consumed counts held fits on = record {
     input = so_far.input ++ piece;
     put = so_far.put ++ on.more;
     consumed = Consumes-trans source.bytes amid.bytes source'.bytes so_far.input piece so_far.consumed consumed;
     appended = Appends-trans sink.bytes between.bytes sink'.bytes so_far.put on.more so_far.appended on.appended;
     counted = omega (arith, so_far.counted, length-append so_far.input piece);
     within = omega (arith, so_far.counted, length-append so_far.input piece);
-    source_later = omega (arith, so_far.source_later);
-    sink_later = omega (arith, so_far.sink_later);
+    source_held = held ∙ so_far.source_held;
+    sink_held = on.faults ∙ so_far.sink_held;
     served = on.on;
   }
 
   -- serving stopped with one more piece
   pub Streams-stopped : (end : ServeEnd) (source' sink' : Port) (piece : List ℕ)
-      → Consumes amid.bytes source'.bytes piece → length (so_far.input ++ piece) ≤ longest_input + 1
+      → Consumes amid.bytes source'.bytes piece → source'.faults ≡ amid.faults → length (so_far.input ++ piece) ≤ longest_input + 1
       → StopsAfter config end so_far.input so_far.put piece between sink' → Streams config end source source' sink sink'
-  Streams-stopped end source' sink' piece consumed fits stops = record {
+  Streams-stopped end source' sink' piece consumed held fits stops = record {
     taken = so_far.input ++ piece;
     put = so_far.put ++ stops.more;
     consumed = Consumes-trans source.bytes amid.bytes source'.bytes so_far.input piece so_far.consumed consumed;
     appended = Appends-trans sink.bytes between.bytes sink'.bytes so_far.put stops.more so_far.appended stops.appended;
     bounded = fits;
-    ended = EndsBy-later config end source amid source' sink between sink' _ _ so_far.source_later so_far.sink_later (stops.ends amid source');
+    ended = stops.ends source';
+    reads = stops.reads source source' (held ∙ so_far.source_held);
+    writes = writes_later end sink between sink' so_far.sink_held stops.writes;
   }
 
   answered : Answered config so_far.input cutter.rest so_far.put
@@ -196,15 +206,16 @@ module _ (config : Config) (source amid sink between : Port) (taken : ℕ) (cutt
     consumed = Consumes-kept source.bytes amid.bytes source'.bytes so_far.input so_far.consumed keeps;
     appended = so_far.appended;
     bounded = omega (arith, input_fits);
-    ended = EndsBy-later config ReadFault source amid source' sink between between so_far.input so_far.put so_far.source_later so_far.sink_later
-        (input_fits, rose, cutter.rest, so_far.served.sound, answered);
+    ended = (input_fits, cutter.rest, so_far.served.sound, answered);
+    reads = subst (λ count. Rose count source'.faults) so_far.source_held rose;
+    writes = so_far.sink_held;
   }
 
   -- the input ended
   pub Streams-finished : (end : ServeEnd) (source' : Port) (bytes : List ℕ) (count : ℕ)
-      → Consumes amid.bytes source'.bytes (take count bytes) → count ≡ 0 → IsAtEnd source'.bytes → FinishesBy cutter end
+      → Consumes amid.bytes source'.bytes (take count bytes) → count ≡ 0 → IsAtEnd source'.bytes → source'.faults ≡ amid.faults → FinishesBy cutter end
       → Streams config end source source' sink between
-  Streams-finished end source' bytes count consumed none at_end finish = record {
+  Streams-finished end source' bytes count consumed none at_end held finish = record {
     taken = so_far.input;
     put = so_far.put;
     consumed =
@@ -213,12 +224,30 @@ module _ (config : Config) (source amid sink between : Port) (taken : ℕ) (cutt
     appended = so_far.appended;
     bounded = omega (arith, input_fits);
     ended = finished end finish;
+    reads = reads_of end finish (held ∙ so_far.source_held);
+    writes = writes_of end finish so_far.sink_held;
   }
     where
+      reads_of : (end : ServeEnd) → FinishesBy cutter end → source'.faults ≡ source.faults → CountsReads end source source'
+      reads_of Ended finish same = same
+      reads_of (Refused number at) finish same = same
+      reads_of ReadFault finish same = absurd finish
+      reads_of WriteFault finish same = absurd finish
+      reads_of NoMemory finish same = absurd finish
+      reads_of TooLong finish same = absurd finish
+
+      writes_of : (end : ServeEnd) → FinishesBy cutter end → between.faults ≡ sink.faults → CountsWrites end sink between
+      writes_of Ended finish same = same
+      writes_of (Refused number at) finish same = same
+      writes_of ReadFault finish same = absurd finish
+      writes_of WriteFault finish same = absurd finish
+      writes_of NoMemory finish same = absurd finish
+      writes_of TooLong finish same = absurd finish
+
       whole : take longest_input so_far.input ≡ so_far.input
       whole = take_all longest_input so_far.input input_fits
 
-      finished : (end : ServeEnd) → FinishesBy cutter end → EndsBy config end source source' sink between so_far.input so_far.put
+      finished : (end : ServeEnd) → FinishesBy cutter end → EndsBy config end source' so_far.input so_far.put
       finished Ended finish = (
         input_fits,
         at_end,
@@ -261,4 +290,6 @@ Streams-nothing config source sink = record {
     cut = subst (λ input. Cuts input [] []) (sym (take-nil longest_input)) cuts_nothing;
     begun = BeginsServing-nothing config (first_state empty_bucket) [];
   };
+  reads = refl;
+  writes = refl;
 }

@@ -3,7 +3,7 @@ use Rattle.std.specs.Prelude.{◌≡◌, ℕ, List, Result, Ok, Err}
 use Rattle.std.specs.Io.KnownBytes.{Appends}
 use Rattle.io_ports.specs.Faults.{Rose}
 use Rattle.mount_spec.specs.OneThread.{Serves, BeginsServing}
-use Rattle.gcsmount.specs.Ports.{Port}
+use Rattle.io_ports.specs.Ports.{Port}
 use Rattle.gcsmount.specs.SerialState.{SerialState}
 use Rattle.gcsmount.specs.declared.answer.Stop.{Stop}
 use Rattle.gcsmount.specs.declared.answer.Stop.TheVariants.{WriteFault, NoMemory}
@@ -14,6 +14,7 @@ pub record AnswersAll (mount mount' : SerialState) (frames : List (List ℕ)) (s
   pub appended : Appends sink.bytes sink'.bytes put
   pub config : mount'.config ≡ mount.config
   pub served : Serves mount.config mount.state frames put mount'.state
+  pub faults : sink'.faults ≡ sink.faults
 
 -- A prefix of the replies to these frames was put.
 pub record AnswersSome (mount : SerialState) (frames : List (List ℕ)) (sink sink' : Port) : Type 0 where
@@ -24,7 +25,7 @@ pub record AnswersSome (mount : SerialState) (frames : List (List ℕ)) (sink si
 -- what a stop says of the sink's count of faults
 abbrev pub IsCause : Stop → Port → Port → Type 0
 IsCause WriteFault sink sink' = Rose sink.faults sink'.faults
-IsCause NoMemory sink sink' = Unit {0}
+IsCause NoMemory sink sink' = sink'.faults ≡ sink.faults
 
 -- what answering frames came to
 abbrev pub Answers : {U : Type 0} → SerialState → SerialState → List (List ℕ) → Port → Port → Result U Stop → Type 0

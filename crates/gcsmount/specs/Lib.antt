@@ -2,7 +2,6 @@
 pub mod Answers
 pub mod Codes
 pub mod Performing
-pub mod Ports
 pub mod SerialState
 pub mod Serve
 pub mod Serving

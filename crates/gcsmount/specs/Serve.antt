@@ -7,7 +7,7 @@ use Rattle.fuse_frames.specs.Cut.{Cuts, IsBelow40, IsOver, IsSound}
 use Rattle.io_ports.specs.Faults.{Rose}
 use Rattle.mount_model.specs.declared.config.Config.{Config}
 use Rattle.mount_spec.specs.OneThread.{RunState, first_state, Serves, BeginsServing}
-use Rattle.gcsmount.specs.Ports.{Port}
+use Rattle.io_ports.specs.Ports.{Port}
 use Rattle.gcsmount.specs.declared.serve_end.ServeEnd.{ServeEnd}
 use Rattle.gcsmount.specs.declared.serve_end.ServeEnd.TheVariants.{Ended, Refused, ReadFault, WriteFault, NoMemory, TooLong}
 
@@ -41,20 +41,30 @@ IsFault number rest at_end =
     ((number ≡ 15) × IsBelow40 rest) ⊎ (((number ≡ 16) × IsOver rest) ⊎ ((number ≡ 17) × IsSound rest × (rest ≢ []) × at_end))
 
 -- What an end says of the bytes taken and of the bytes put.
-abbrev pub EndsBy : Config → ServeEnd → Port → Port → Port → Port → List ℕ → List ℕ → Type 0
-EndsBy config Ended source source' sink sink' taken put =
+abbrev pub EndsBy : Config → ServeEnd → Port → List ℕ → List ℕ → Type 0
+EndsBy config Ended source' taken put =
     (length taken ≤ longest_input) × IsAtEnd source'.bytes × Answered config taken [] put
-EndsBy config (Refused number place) source source' sink sink' taken put =
+EndsBy config (Refused number place) source' taken put =
     (rest : List ℕ) × (answered : Answered config (take longest_input taken) rest put) × (place ≡ place_of answered)
     × IsFault number rest ((length taken ≤ longest_input) × IsAtEnd source'.bytes)
-EndsBy config ReadFault source source' sink sink' taken put =
-    (length taken ≤ longest_input) × Rose source.faults source'.faults × (rest : List ℕ) × IsSound rest × Answered config taken rest put
-EndsBy config WriteFault source source' sink sink' taken put =
-    Rose sink.faults sink'.faults × PartlyAnswered config (take longest_input taken) put
-EndsBy config NoMemory source source' sink sink' taken put =
+EndsBy config ReadFault source' taken put =
+    (length taken ≤ longest_input) × (rest : List ℕ) × IsSound rest × Answered config taken rest put
+EndsBy config WriteFault source' taken put =
     PartlyAnswered config (take longest_input taken) put
-EndsBy config TooLong source source' sink sink' taken put =
+EndsBy config NoMemory source' taken put =
+    PartlyAnswered config (take longest_input taken) put
+EndsBy config TooLong source' taken put =
     (length taken ≡ longest_input + 1) × (rest : List ℕ) × IsSound rest × Answered config (take longest_input taken) rest put
+
+-- What an end says of the source's count of faults: it rose where a read failed, and else it stayed.
+abbrev pub CountsReads : ServeEnd → Port → Port → Type 0
+CountsReads ReadFault source source' = Rose source.faults source'.faults
+CountsReads end source source' = source'.faults ≡ source.faults
+
+-- What an end says of the sink's count of faults: it rose where a write failed, and else it stayed.
+abbrev pub CountsWrites : ServeEnd → Port → Port → Type 0
+CountsWrites WriteFault sink sink' = Rose sink.faults sink'.faults
+CountsWrites end sink sink' = sink'.faults ≡ sink.faults
 
 -- A stream was served to this end, between these moments of its source and its sink.
 pub record Streams (config : Config) (end : ServeEnd) (source source' sink sink' : Port) : Type 0 where
@@ -63,7 +73,9 @@ pub record Streams (config : Config) (end : ServeEnd) (source source' sink sink'
   pub consumed : Consumes source.bytes source'.bytes taken
   pub appended : Appends sink.bytes sink'.bytes put
   pub bounded : length taken ≤ longest_input + 1
-  pub ended : EndsBy config end source source' sink sink' taken put
+  pub ended : EndsBy config end source' taken put
+  pub reads : CountsReads end source source'
+  pub writes : CountsWrites end sink sink'
 
 -- An input that can be served whole: frames one behind the other, at most the longest input.
 pub record IsGood (input : List ℕ) : Type 0 where

@@ -5,12 +5,11 @@ use Rattle.std.specs.Io.KnownBytes.{Appends, Consumes}
 use Rattle.bucket_api.specs.BucketState.{empty_bucket}
 use Rattle.fuse_frames.specs.Cut.{Cuts, IsBelow40, IsOver, IsSound}
 use Rattle.fuse_frames.specs.Cutter.{Cutter, place}
-use Rattle.io_ports.specs.Faults.{Rose}
 use Rattle.mount_model.specs.declared.config.Config.{Config}
 use Rattle.mount_spec.specs.OneThread.{first_state, Serves}
-use Rattle.gcsmount.specs.Ports.{Port}
+use Rattle.io_ports.specs.Ports.{Port}
 use Rattle.gcsmount.specs.SerialState.{SerialState}
-use Rattle.gcsmount.specs.Serve.{Answered, EndsBy, PartlyAnswered, longest_input, place_of}
+use Rattle.gcsmount.specs.Serve.{Answered, CountsReads, CountsWrites, EndsBy, PartlyAnswered, longest_input, place_of}
 use Rattle.fuse_frames.specs.declared.fault.CutFault.{CutFault}
 use Rattle.fuse_frames.specs.declared.fault.CutFault.TheVariants as cut
 use Rattle.gcsmount.specs.declared.answer.Stop.{Stop}
@@ -33,26 +32,28 @@ abbrev pub IsBadLen : ℕ → List ℕ → Type 0
 IsBadLen number rest = ((number ≡ 15) × IsBelow40 rest) ⊎ ((number ≡ 16) × IsOver rest)
 
 -- what an end within a piece says of the input up to and with the piece
-abbrev pub PieceEnds : Config → ServeEnd → Port → Port → List ℕ → List ℕ → Type 0
-PieceEnds config (Refused number place) sink sink' input put =
+abbrev pub PieceEnds : Config → ServeEnd → List ℕ → List ℕ → Type 0
+PieceEnds config (Refused number place) input put =
     (rest : List ℕ) × (answered : Answered config input rest put) × (place ≡ place_of answered) × IsBadLen number rest
-PieceEnds config WriteFault sink sink' input put = Rose sink.faults sink'.faults × PartlyAnswered config input put
-PieceEnds config NoMemory sink sink' input put = PartlyAnswered config input put
-PieceEnds config Ended sink sink' input put = ⊥
-PieceEnds config ReadFault sink sink' input put = ⊥
-PieceEnds config TooLong sink sink' input put = ⊥
+PieceEnds config WriteFault input put = PartlyAnswered config input put
+PieceEnds config NoMemory input put = PartlyAnswered config input put
+PieceEnds config Ended input put = ⊥
+PieceEnds config ReadFault input put = ⊥
+PieceEnds config TooLong input put = ⊥
 
 -- a piece was served: its whole frames were answered
 pub record ServesOn (config : Config) (input put piece : List ℕ) (cutter : Cutter) (mount : SerialState) (sink sink' : Port) : Type 0 where
   pub more : List ℕ
   pub appended : Appends sink.bytes sink'.bytes more
   pub on : HasServed config (input ++ piece) (put ++ more) cutter mount
+  pub faults : sink'.faults ≡ sink.faults
 
 -- serving ended within a piece
 pub record EndsIn (config : Config) (end : ServeEnd) (input put piece : List ℕ) (sink sink' : Port) : Type 0 where
   pub more : List ℕ
   pub appended : Appends sink.bytes sink'.bytes more
-  pub ends : PieceEnds config end sink sink' (input ++ piece) (put ++ more)
+  pub ends : PieceEnds config end (input ++ piece) (put ++ more)
+  pub writes : CountsWrites end sink sink'
 
 -- what serving a piece came to
 abbrev pub ServesPiece : {U : Type 0} → Config → List ℕ → List ℕ → List ℕ → Cutter → SerialState → Port → Port → Result U ServeEnd → Type 0
@@ -63,7 +64,9 @@ ServesPiece config input put piece cutter' mount' sink sink' (Err end) = EndsIn 
 pub record StopsAfter (config : Config) (end : ServeEnd) (input put piece : List ℕ) (sink sink' : Port) : Type 0 where
   pub more : List ℕ
   pub appended : Appends sink.bytes sink'.bytes more
-  pub ends : (source source' : Port) → EndsBy config end source source' sink sink' (input ++ piece) (put ++ more)
+  pub ends : (source' : Port) → EndsBy config end source' (input ++ piece) (put ++ more)
+  pub reads : (source source' : Port) → source'.faults ≡ source.faults → CountsReads end source source'
+  pub writes : CountsWrites end sink sink'
 
 -- what serving the bytes of one take came to: only while the input isn't too long does it go on
 abbrev pub ServesTaken : {U : Type 0} → Config → List ℕ → List ℕ → List ℕ → Cutter → SerialState → Port → Port → Result U ServeEnd → Type 0
@@ -100,6 +103,6 @@ pub record Progress (config : Config) (source source' sink sink' : Port) (taken 
   pub appended : Appends sink.bytes sink'.bytes put
   pub counted : taken ≡ length input
   pub within : taken ≤ longest_input
-  pub source_later : source.faults ≤ source'.faults
-  pub sink_later : sink.faults ≤ sink'.faults
+  pub source_held : source'.faults ≡ source.faults
+  pub sink_held : sink'.faults ≡ sink.faults
   pub served : HasServed config input put cutter mount

@@ -5,7 +5,7 @@ use Rattle.std.specs.Io.KnownBytes.{Appends}
 use Rattle.io_ports.specs.Faults.{Rose}
 use Rattle.io_ports.specs.Streams.{AppendsPrefix}
 use Rattle.mount_model.specs.Configs.{default_config}
-use Rattle.gcsmount.specs.Ports.{Port}
+use Rattle.io_ports.specs.Ports.{Port}
 use Rattle.gcsmount.specs.Serve.{IsGood, Streams}
 use Rattle.gcsmount.specs.declared.serve_end.ServeEnd.{ServeEnd}
 use Rattle.gcsmount.specs.declared.serve_end.ServeEnd.TheVariants.{Ended, Refused, ReadFault, WriteFault, NoMemory, TooLong}
@@ -25,7 +25,7 @@ refused_line number place = codes "refused " ++ (decimal number ++ (codes " at "
 -- A line was put, or the notes failed, having taken a prefix of it.
 abbrev pub Tells : ℕ → List ℕ → Port → Port → ℕ → Type 0
 Tells told text notes notes' status =
-    ((status ≡ told) × Appends notes.bytes notes'.bytes text)
+    ((status ≡ told) × Appends notes.bytes notes'.bytes text × (notes'.faults ≡ notes.faults))
     ⊎ ((status ≡ 4) × Rose notes.faults notes'.faults × AppendsPrefix notes.bytes notes'.bytes text)
 
 -- The status of an end, and what is told of it. Memory for the line of a refusal may be refused.

@@ -1,4 +1,4 @@
-ghost use Rattle.std.specs.Prelude.{◌≡◌, ◌≤◌, ◌∷◌, [], IfOk, IfErr, OnOk, OnErr};
+ghost use Rattle.std.specs.Prelude.{◌≡◌, ◌∷◌, [], IfOk, IfErr, OnOk, OnErr};
 ghost use Rattle.std.specs.Io.KnownBytes.{Appends};
 ghost use Rattle.fuse_frames.specs.Cutter.{place};
 ghost use Rattle.fuse_head.specs.Head.{IsWholeFrame};
@@ -7,7 +7,6 @@ ghost use Rattle.io_ports.specs.Faults.{Rose};
 ghost use Rattle.io_ports.specs.Streams.{AppendsPrefix};
 ghost use Rattle.mount_spec.specs.OneThread.{Serves};
 ghost use Rattle.gcsmount.specs.Answers.{Answers};
-ghost use Rattle.gcsmount.specs.Ports.{port};
 
 use crate::serial::Serial;
 use fuse_frames::FrameCutter;
@@ -34,8 +33,7 @@ pub(crate) fn answer<W: Sink>(
     sink: &mut W,
 ) -> Result<(), Stop>
     requires { IsWholeFrame frame.now }
-    ensures answers { Answers serial.old serial.new (frame.now ∷ []) (port (W.written sink.old) (W.faults sink.old)) (port (W.written sink.new) (W.faults sink.new)) result }
-    ensures faults { W.faults sink.old ≤ W.faults sink.new }
+    ensures answers { Answers serial.old serial.new (frame.now ∷ []) (W.port sink.old) (W.port sink.new) result }
 {
     match reply_to(alloc, serial, frame) {
         Ok(text) => put(sink, text.as_slice()),
@@ -50,9 +48,8 @@ pub(crate) fn answer_waiting<W: Sink>(
     cutter: &mut FrameCutter,
     sink: &mut W,
 ) -> Result<(), Stop>
-    ensures answers { Answers serial.old serial.new cutter.old.held (port (W.written sink.old) (W.faults sink.old)) (port (W.written sink.new) (W.faults sink.new)) result }
+    ensures answers { Answers serial.old serial.new cutter.old.held (W.port sink.old) (W.port sink.new) result }
     ensures cutter { OnOk result (cutter.new ≡ record cutter.old { given = place cutter.old; held = [] }) }
-    ensures faults { W.faults sink.old ≤ W.faults sink.new }
 {
     while let Some(frame) = cutter.next() {
         match answer(alloc, serial, frame.as_slice(), sink) {
@@ -90,10 +87,10 @@ fn request_in(alloc: Global, frame: &[u8]) -> Result<Request, NoMemory>
 
 // Puts the bytes, if there are any.
 fn put<W: Sink>(sink: &mut W, bytes: &[u8]) -> Result<(), Stop>
-    ensures ok { OnOk result (Appends (W.written sink.old) (W.written sink.new) bytes.now) }
-    ensures err { OnErr result (AppendsPrefix (W.written sink.old) (W.written sink.new) bytes.now) }
-    ensures failed { IfErr result (λ stop. (stop ≡ Stop.WriteFault) × Rose (W.faults sink.old) (W.faults sink.new)) }
-    ensures faults { W.faults sink.old ≤ W.faults sink.new }
+    ensures ok { OnOk result (Appends (W.port sink.old).bytes (W.port sink.new).bytes bytes.now) }
+    ensures err { OnErr result (AppendsPrefix (W.port sink.old).bytes (W.port sink.new).bytes bytes.now) }
+    ensures failed { IfErr result (λ stop. (stop ≡ Stop.WriteFault) × Rose (W.port sink.old).faults (W.port sink.new).faults) }
+    ensures kept { OnOk result ((W.port sink.new).faults ≡ (W.port sink.old).faults) }
 {
     if bytes.is_empty() {
         return Ok(());

@@ -1,10 +1,9 @@
-ghost use Rattle.std.specs.Prelude.{◌≡◌, ◌≤◌, ◌+◌, ℕ, List, IfOk, OnErr, length, take, vec_len};
+ghost use Rattle.std.specs.Prelude.{◌≡◌, ◌≤◌, ◌+◌, ℕ, List, IfOk, OnOk, OnErr, length, take, vec_len};
 ghost use Rattle.std.specs.Io.KnownBytes.{Consumes, IsAtEnd, Keeps};
 ghost use Rattle.io_ports.specs.Faults.{Rose};
 ghost use Rattle.mount_model.specs.Configs.{IsConfig};
 ghost use Rattle.mount_model.specs.declared.config.Config.{Config};
 ghost use Rattle.fuse_frames.specs.Cutter.{fed};
-ghost use Rattle.gcsmount.specs.Ports.{port};
 ghost use Rattle.gcsmount.specs.Serve.{IsComplete, Streams, longest_input};
 ghost use Rattle.gcsmount.specs.Serving.{FinishesBy, HasServed, ServesTaken};
 
@@ -32,10 +31,8 @@ pub fn serve_stream<R: Source, W: Sink>(
     sink: &mut W,
 ) -> ServeEnd
     requires { IsConfig config.now }
-    ensures streams { Streams config.now result (port (R.left source.old) (R.faults source.old)) (port (R.left source.new) (R.faults source.new)) (port (W.written sink.old) (W.faults sink.old)) (port (W.written sink.new) (W.faults sink.new)) }
-    ensures complete { IsComplete result (port (R.left source.old) (R.faults source.old)) (port (R.left source.new) (R.faults source.new)) (port (W.written sink.old) (W.faults sink.old)) (port (W.written sink.new) (W.faults sink.new)) }
-    ensures source_faults { R.faults source.old ≤ R.faults source.new }
-    ensures sink_faults { W.faults sink.old ≤ W.faults sink.new }
+    ensures streams { Streams config.now result (R.port source.old) (R.port source.new) (W.port sink.old) (W.port sink.new) }
+    ensures complete { IsComplete result (R.port source.old) (R.port source.new) (W.port sink.old) (W.port sink.new) }
 {
     serve_input(alloc, config, source, sink)
 }
@@ -46,9 +43,7 @@ fn serve_input<R: Source, W: Sink>(
     source: &mut R,
     sink: &mut W,
 ) -> ServeEnd
-    ensures streams { Streams config.now result (port (R.left source.old) (R.faults source.old)) (port (R.left source.new) (R.faults source.new)) (port (W.written sink.old) (W.faults sink.old)) (port (W.written sink.new) (W.faults sink.new)) }
-    ensures source_faults { R.faults source.old ≤ R.faults source.new }
-    ensures sink_faults { W.faults sink.old ≤ W.faults sink.new }
+    ensures streams { Streams config.now result (R.port source.old) (R.port source.new) (W.port sink.old) (W.port sink.new) }
 {
     let Ok(mut buffer) = piece_buffer(alloc) else {
         return ServeEnd::NoMemory;
@@ -90,11 +85,11 @@ fn take_piece<R: Source>(source: &mut R, buffer: &mut [u8], taken: u64) -> Resul
     requires buffer { length buffer.old ≡ 65536 }
     requires taken { taken ≤ longest_input }
     ensures bound { IfOk result (λ count. (count ≤ 65536) × (taken + count ≤ longest_input + 1)) }
-    ensures bytes { IfOk result (λ count. Consumes (R.left source.old) (R.left source.new) (take count buffer.new)) }
-    ensures end { IfOk result (λ count. count ≡ 0 → IsAtEnd (R.left source.new)) }
-    ensures err { OnErr result (Keeps (R.left source.old) (R.left source.new)) }
-    ensures failed { OnErr result (Rose (R.faults source.old) (R.faults source.new)) }
-    ensures faults { R.faults source.old ≤ R.faults source.new }
+    ensures bytes { IfOk result (λ count. Consumes (R.port source.old).bytes (R.port source.new).bytes (take count buffer.new)) }
+    ensures end { IfOk result (λ count. count ≡ 0 → IsAtEnd (R.port source.new).bytes) }
+    ensures err { OnErr result (Keeps (R.port source.old).bytes (R.port source.new).bytes) }
+    ensures failed { OnErr result (Rose (R.port source.old).faults (R.port source.new).faults) }
+    ensures held { OnOk result ((R.port source.new).faults ≡ (R.port source.old).faults) }
 {
     let room = (LONGEST_INPUT + 1 - taken).min(PIECE as u64) as usize;
     let (asked, _rest) = buffer.split_at_mut(room);
@@ -116,8 +111,7 @@ fn serve_taken<W: Sink>(
     requires buffer { count ≤ length buffer.now }
     requires bound { taken + count ≤ longest_input + 1 }
     ensures served { (config : Config) (input put : List ℕ) → taken ≡ length input → HasServed config input put cutter.old serial.old →
-        ServesTaken config input put (take count buffer.now) cutter.new serial.new (port (W.written sink.old) (W.faults sink.old)) (port (W.written sink.new) (W.faults sink.new)) result }
-    ensures faults { W.faults sink.old ≤ W.faults sink.new }
+        ServesTaken config input put (take count buffer.now) cutter.new serial.new (W.port sink.old) (W.port sink.new) result }
 {
     let counted = (LONGEST_INPUT - taken).min(count as u64) as usize;
     let (piece, _past) = buffer.split_at(counted);

@@ -1,7 +1,6 @@
 ghost use Rattle.std.specs.Prelude.{◌≡◌, ◌≤◌, ◌+◌, ◌^◌, ℕ, List, length};
 ghost use Rattle.fuse_frames.specs.Cutter.{fed};
 ghost use Rattle.mount_model.specs.declared.config.Config.{Config};
-ghost use Rattle.gcsmount.specs.Ports.{port};
 ghost use Rattle.gcsmount.specs.Serving as serving;
 ghost use Rattle.gcsmount.specs.Serving.{HasServed, ServesPiece};
 
@@ -22,8 +21,7 @@ pub(crate) fn serve_piece<W: Sink>(
 ) -> Result<(), ServeEnd>
     requires { fed cutter.old + length piece.now ≤ 2 ^ 62 }
     ensures served { (config : Config) (input put : List ℕ) → HasServed config input put cutter.old serial.old →
-        ServesPiece config input put piece.now cutter.new serial.new (port (W.written sink.old) (W.faults sink.old)) (port (W.written sink.new) (W.faults sink.new)) result }
-    ensures faults { W.faults sink.old ≤ W.faults sink.new }
+        ServesPiece config input put piece.now cutter.new serial.new (W.port sink.old) (W.port sink.new) result }
 {
     let fed = cutter.feed(piece);
     match answer_waiting(alloc, serial, cutter, sink) {

@@ -1,5 +1,4 @@
-ghost use Rattle.std.specs.Prelude.{◌≡◌, ◌≢◌, ◌≤◌, ◌↔◌, IfOk, IsTrue, codes, string_bytes};
-ghost use Rattle.gcsmount.specs.Ports.{port};
+ghost use Rattle.std.specs.Prelude.{◌≡◌, ◌≢◌, ◌↔◌, IfOk, IsTrue, codes, string_bytes};
 ghost use Rattle.gcsmount.specs.Tool.{EndsWith, IsServedWhole, RunsServe, Tells, refused_line, serve_words, usage_line};
 
 use crate::serve::serve_stream;
@@ -32,18 +31,14 @@ pub fn run_tool<T: Threads + Wait + Sync, R: Source, W: Sink, E: Sink, G: Gate>(
     _gate: &G,
 ) -> u8
     ensures serve { words.now ≡ serve_words →
-        RunsServe (port (R.left source.old) (R.faults source.old)) (port (R.left source.new) (R.faults source.new)) (port (W.written sink.old) (W.faults sink.old)) (port (W.written sink.new) (W.faults sink.new)) (port (E.written notes.old) (E.faults notes.old)) (port (E.written notes.new) (E.faults notes.new)) result }
+        RunsServe (R.port source.old) (R.port source.new) (W.port sink.old) (W.port sink.new) (E.port notes.old) (E.port notes.new) result }
     ensures complete { words.now ≡ serve_words →
-        IsServedWhole result (port (R.left source.old) (R.faults source.old)) (port (R.left source.new) (R.faults source.new)) (port (W.written sink.old) (W.faults sink.old)) (port (W.written sink.new) (W.faults sink.new)) }
-    ensures usage { words.now ≢ serve_words → Tells 2 usage_line (port (E.written notes.old) (E.faults notes.old)) (port (E.written notes.new) (E.faults notes.new)) result }
+        IsServedWhole result (R.port source.old) (R.port source.new) (W.port sink.old) (W.port sink.new) }
+    ensures usage { words.now ≢ serve_words → Tells 2 usage_line (E.port notes.old) (E.port notes.new) result }
 
     // Words of no form leave the source and the sink as they were.
     ensures source_kept { words.now ≢ serve_words → source.new ≡ source.old }
     ensures sink_kept { words.now ≢ serve_words → sink.new ≡ sink.old }
-
-    ensures source_faults { R.faults source.old ≤ R.faults source.new }
-    ensures sink_faults { W.faults sink.old ≤ W.faults sink.new }
-    ensures notes_faults { E.faults notes.old ≤ E.faults notes.new }
 {
     if !is_serve(words) {
         return tell(notes, 2, USAGE);
@@ -69,8 +64,7 @@ fn is_serve_word(word: &Text) -> bool
 
 // Puts a line, for which the status is `told`; 4 where the notes fail.
 fn tell<E: Sink>(notes: &mut E, told: u8, line: &str) -> u8
-    ensures tells { Tells told line.now (port (E.written notes.old) (E.faults notes.old)) (port (E.written notes.new) (E.faults notes.new)) result }
-    ensures faults { E.faults notes.old ≤ E.faults notes.new }
+    ensures tells { Tells told line.now (E.port notes.old) (E.port notes.new) result }
 {
     match notes.put(line.as_bytes()) {
         Ok(()) => told,
@@ -80,8 +74,7 @@ fn tell<E: Sink>(notes: &mut E, told: u8, line: &str) -> u8
 
 // The status of an end, after telling a refusal.
 fn status_of<E: Sink>(alloc: Global, end: ServeEnd, notes: &mut E) -> u8
-    ensures ends { EndsWith end (port (E.written notes.old) (E.faults notes.old)) (port (E.written notes.new) (E.faults notes.new)) result }
-    ensures faults { E.faults notes.old ≤ E.faults notes.new }
+    ensures ends { EndsWith end (E.port notes.old) (E.port notes.new) result }
 {
     match end {
         ServeEnd::Ended => 0,

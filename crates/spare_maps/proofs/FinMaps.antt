@@ -9,27 +9,23 @@ use Rattle.std.specs.Cmp.{nat_cmp_total}
 use Rattle.std.specs.Cmp.Lexicographic.{slice_cmp, nat_list_cmp_total}
 use Rattle.std.specs.FinMap as fin
 use Rattle.std.specs.Str.{bytes_eq}
-use Rattle.spare_maps.proofs.Views.{is_eq-nat_cmp}
+use Rattle.std.proofs.lemmas.Option.{none-some}
+use Rattle.base_laws.proofs.Options.{same_some}
+use Rattle.base_laws.proofs.Tests.{is_eq-nat_cmp}
 
 -- ---- a choice by a test that decides
 module _ {X P : Type 0} (b : Bool) (decides : Decides b P) where
   put_at : (v x : X) (o : Option X) → cond b (Some v) o ≡ Some x → (P × (v ≡ x)) ⊎ (o ≡ Some x)
   put_at v x o = elim b as (λ t. b ≡ t → cond t (Some v) o ≡ Some x → (P × (v ≡ x)) ⊎ (o ≡ Some x)) [
-    | true ↦ λ t e. inl (decides.0 t, same v x e)
+    | true ↦ λ t e. inl (decides.0 t, same_some v x e)
     | false ↦ λ t e. inr e
   ] refl
-    where
-      same : (v x : X) → Some v ≡ Some x → v ≡ x
-      same v x e = cc
 
   taken_at : (x : X) (o : Option X) → cond b None o ≡ Some x → (¬ P) × (o ≡ Some x)
   taken_at x o = elim b as (λ t. b ≡ t → cond t None o ≡ Some x → (¬ P) × (o ≡ Some x)) [
-    | true ↦ λ t e. absurd (none x e)
+    | true ↦ λ t e. absurd (none-some x e)
     | false ↦ λ t e. (λ p. false≢true (sym t ∙ decides.1 p), e)
   ] refl
-    where
-      none : (x : X) → None ≡ Some x → ⊥
-      none x e = cc
 
   holds_at : (y n : Option X) → P → cond b y n ≡ y
   holds_at y n p = ap (λ t. cond t y n) (decides.1 p)

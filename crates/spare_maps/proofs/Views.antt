@@ -1,8 +1,7 @@
 -- The entries of an `IndexMap` seen as a finite map: what is found, and what one change makes of it.
 use Rattle.std.proofs.Common.{◌≡◌, ℕ, ◌+◌, ◌<◌, suc, not, length, position, nat_lt, subst, true, false, cond, List, [], ◌∷◌, map, Option, Some, None, refl, sym, ap, ◌∙◌, nat_eq, nat_cmp, String, string_bytes, arith}
-use Rattle.std.proofs.lemmas.Bool.Decides.{nat_tests, Decides-eqb, same_from_decides, Decides-like}
+use Rattle.std.proofs.lemmas.Bool.Decides.{Decides-eqb}
 use Rattle.std.proofs.lemmas.Map.Text.{is_eq-slice_cmp}
-use Rattle.std.proofs.lemmas.Slice.Eq.{bytes_eq-Decides}
 use Rattle.std.specs.Cmp.Lexicographic.{slice_cmp, nat_list_cmp_total}
 use Rattle.std.specs.Cmp.{nat_cmp_total}
 use Rattle.std.specs.FinMap as fin
@@ -12,18 +11,9 @@ use Rattle.std.proofs.lemmas.List.{length-map}
 use Rattle.std.proofs.lemmas.Option.{cond_some}
 use borrow.Author.Tests.{ltb-true}
 use Rattle.indexmap.specs.IndexMap.{set_value_at}
-use Rattle.std.specs.Ordering.{is_eq}
 use Rattle.std.specs.Str.{bytes_eq}
+use Rattle.base_laws.proofs.Tests.{bytes_eq_flip, is_eq-nat_cmp, nat_eq_flip}
 use Rattle.spare_maps.specs.SpareMaps.{by_bytes}
-
-pub is_eq-nat_cmp : (x y : ℕ) → is_eq (nat_cmp x y) ≡ nat_eq x y
-is_eq-nat_cmp x y = grind (arith, nat_tests)
-
-nat_eq_flip : (x y : ℕ) → nat_eq x y ≡ nat_eq y x
-nat_eq_flip x y = same_from_decides (nat_eq x y) (nat_eq y x) (Decides-eqb x y) (Decides-like (nat_eq y x) sym sym (Decides-eqb y x))
-
-bytes_eq_flip : (x y : List ℕ) → bytes_eq x y ≡ bytes_eq y x
-bytes_eq_flip x y = same_from_decides (bytes_eq x y) (bytes_eq y x) (bytes_eq-Decides x y) (Decides-like (bytes_eq y x) sym sym (bytes_eq-Decides y x))
 
 -- ---- under numbers
 module _ {X : Type 0} where

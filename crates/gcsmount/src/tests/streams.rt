@@ -37,9 +37,7 @@ impl<'a> Recording<'a> {
 impl Source for Recording<'_> {
     ghost use Rattle.std.specs.Prelude.{None};
 
-    ghost left = { λ _. None };
-
-    ghost faults = { λ _. 18446744073709551615 };
+    ghost port = { λ _. record { bytes = None; faults = 18446744073709551615 } };
 
     fn take(&mut self, buf: &mut [u8]) -> Result<usize, Failed> {
         if self.takes.push((buf.len(), self.put.get())).is_err() {
@@ -70,9 +68,7 @@ impl<'a> Counting<'a> {
 impl Sink for Counting<'_> {
     ghost use Rattle.std.specs.Prelude.{None};
 
-    ghost written = { λ _. None };
-
-    ghost faults = { λ _. 0 };
+    ghost port = { λ _. record { bytes = None; faults = 0 } };
 
     fn put(&mut self, bytes: &[u8]) -> Result<(), Failed> {
         let count = self.put.get();
@@ -116,9 +112,7 @@ impl Endless {
 impl Source for Endless {
     ghost use Rattle.std.specs.Prelude.{None};
 
-    ghost left = { λ _. None };
-
-    ghost faults = { λ _. 0 };
+    ghost port = { λ _. record { bytes = None; faults = 0 } };
 
     fn take(&mut self, buf: &mut [u8]) -> Result<usize, Failed> {
         let rest = self.bytes.as_slice().get(self.at..).unwrap_or(&[]);

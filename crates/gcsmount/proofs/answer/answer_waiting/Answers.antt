@@ -10,7 +10,7 @@ returns-in-Err-clause-answers g c =
     c.in-Some.ensures.answer.first ∙ ap (λ frame. frame ∷ c.next.new.self.held) (sym c.as_slice.ensures.bytes) in
     Answers-stopped _ _ c.loop-frame.invariant.done c.next.new.self.held _ c.as_slice.result.now _ _ _ _
     (c.loop-frame.invariant.split ∙ ap (λ waiting. c.loop-frame.invariant.done ++ waiting) first)
-    c.loop-frame.invariant.answered c.loop-frame.invariant.faults c.in-Err.ensures.answers.0 c.in-Err.ensures.answers.1
+    c.loop-frame.invariant.answered c.in-Err.ensures.answers.0 c.in-Err.ensures.answers.1
 
 pub loop-frame-preserved : goal.loop-frame-preserved
 loop-frame-preserved g c =
@@ -23,5 +23,4 @@ loop-frame-preserved g c =
           omega (arith, length-concat-push c.loop-frame.invariant.done c.as_slice.result.now, c.loop-frame.invariant.given, c.in-Some.ensures.answer.given, ap length c.as_slice.ensures.bytes);
       rest = c.in-Some.ensures.answer.rest ∙ c.loop-frame.invariant.rest;
       answered = AnswersAll-then _ _ _ _ _ _ _ _ c.loop-frame.invariant.answered c.in-Ok.ensures.answers;
-      faults = omega (arith, c.loop-frame.invariant.faults, c.in-Ok.ensures.faults);
     }

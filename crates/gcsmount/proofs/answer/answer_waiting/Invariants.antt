@@ -1,7 +1,6 @@
-use Rattle.std.proofs.Common.{◌≡◌, ◌≤◌, ◌+◌, ◌++◌, List, ℕ, length}
+use Rattle.std.proofs.Common.{◌≡◌, ◌+◌, ◌++◌, List, ℕ, length}
 use Rattle.std.specs.List.{concat}
 use Rattle.gcsmount.specs.Answers.{AnswersAll}
-use Rattle.gcsmount.specs.Ports.{port}
 use Rattle.gcsmount.proofs.answer.answer_waiting.Given as goal
 
 -- The frames that waited are those that were answered and those that still wait.
@@ -11,8 +10,7 @@ invariant-loop-frame g l = record {
   split : l.initial.cutter.held ≡ done ++ l.cutter.held;
   given : l.cutter.given ≡ l.initial.cutter.given + length (concat done);
   rest : l.cutter.rest ≡ l.initial.cutter.rest;
-  answered : AnswersAll l.initial.serial l.serial done (port (g.W.Sink.written l.initial.sink) (g.W.Sink.faults l.initial.sink)) (port (g.W.Sink.written l.sink) (g.W.Sink.faults l.sink));
-  faults : g.W.Sink.faults l.initial.sink ≤ g.W.Sink.faults l.sink;
+  answered : AnswersAll l.initial.serial l.serial done (g.W.Sink.port l.initial.sink) (g.W.Sink.port l.sink);
 }
 
 abbrev pub decreases-loop-frame : goal.decreases-loop-frame

@@ -1,7 +1,6 @@
 -- Each turn serves one more piece, and each end is one of the stream.
 use Rattle.std.proofs.Common.{◌≡◌, ◌≤◌, ◌++◌, List, ℕ, length, take, drop, ◌∙◌, subst, arith, length-append, length-take}
 use Rattle.std.proofs.lemmas.List.{take_at}
-use Rattle.gcsmount.specs.Ports.{port}
 use Rattle.gcsmount.specs.Serve.{longest_input}
 use Rattle.gcsmount.specs.Serving.{ServesOn, StopsAfter}
 use Rattle.gcsmount.proofs.ServeLaws.{Progress-on, Streams-finished, Streams-nothing, Streams-read_fault, Streams-stopped}
@@ -19,7 +18,7 @@ returns-in-Err-clause-streams g c = Streams-read_fault _ _ _ _ _ _ _ _ c.loop-cu
 pub returns-in-Ok-eq0-clause-streams : goal.returns-in-Ok-eq0-clause-streams
 returns-in-Ok-eq0-clause-streams g c =
     let none : c.in-Ok-eq0.field-0 ≡ 0 = omega arith in
-    Streams-finished _ _ _ _ _ _ _ _ c.loop-cutter.invariant.so_far _ _ _ _ c.in-Ok-eq0.ensures.bytes none (c.in-Ok-eq0.ensures.end none) c.end_of_input.ensures
+    Streams-finished _ _ _ _ _ _ _ _ c.loop-cutter.invariant.so_far _ _ _ _ c.in-Ok-eq0.ensures.bytes none (c.in-Ok-eq0.ensures.end none) c.in-Ok-eq0.ensures.held c.end_of_input.ensures
 
 pub loop-cutter-preserved : goal.loop-cutter-preserved
 loop-cutter-preserved g c =
@@ -32,9 +31,9 @@ loop-cutter-preserved g c =
     record {
       buffer = c.loop-cutter.invariant.buffer;
       so_far = Progress-on _ _ _ _ _ _ _ _ so_far _ _ (take count c.take_piece.new.buffer) count _ _
-          c.in-Ok-take_piece.ensures.bytes (omega (arith, length-take count c.take_piece.new.buffer, c.in-Ok-take_piece.ensures.bound)) c.in-Ok-take_piece.ensures.faults c.in-Ok-serve_taken.ensures.faults
+          c.in-Ok-take_piece.ensures.bytes (omega (arith, length-take count c.take_piece.new.buffer, c.in-Ok-take_piece.ensures.bound)) c.in-Ok-take_piece.ensures.held
           (subst (λ (buffer : List ℕ). length (so_far.input ++ take count buffer) ≤ longest_input) written served.0)
-          (subst (λ (buffer : List ℕ). ServesOn c.args.config.now so_far.input so_far.put (take count buffer) c.serve_taken.new.cutter c.serve_taken.new.serial (port (g.W.Sink.written c.loop-cutter.sink) (g.W.Sink.faults c.loop-cutter.sink)) (port (g.W.Sink.written c.serve_taken.new.sink) (g.W.Sink.faults c.serve_taken.new.sink))) written served.1);
+          (subst (λ (buffer : List ℕ). ServesOn c.args.config.now so_far.input so_far.put (take count buffer) c.serve_taken.new.cutter c.serve_taken.new.serial (g.W.Sink.port c.loop-cutter.sink) (g.W.Sink.port c.serve_taken.new.sink)) written served.1);
     }
 
 pub returns-in-Err-serve_taken-clause-streams : goal.returns-in-Err-serve_taken-clause-streams
@@ -45,6 +44,6 @@ returns-in-Err-serve_taken-clause-streams g c =
     let whole : length bytes ≡ c.loop-cutter.buffer.len = omega arith in
     let written : c.as_slice.result.now ≡ bytes = c.as_slice.ensures.value ∙ take_at bytes (drop (length bytes) c.loop-cutter.buffer.items) c.loop-cutter.buffer.len whole in
     let stops = c.in-Err-serve_taken.ensures.served c.args.config.now so_far.input so_far.put so_far.counted so_far.served in
-    Streams-stopped _ _ _ _ _ _ _ _ so_far _ _ _ (take count c.take_piece.new.buffer) c.in-Ok-take_piece.ensures.bytes
+    Streams-stopped _ _ _ _ _ _ _ _ so_far _ _ _ (take count c.take_piece.new.buffer) c.in-Ok-take_piece.ensures.bytes c.in-Ok-take_piece.ensures.held
     (omega (arith, length-append so_far.input (take count c.take_piece.new.buffer), length-take count c.take_piece.new.buffer, so_far.counted, c.in-Ok-take_piece.ensures.bound))
-    (subst (λ (buffer : List ℕ). StopsAfter c.args.config.now c.in-Err-serve_taken.end so_far.input so_far.put (take count buffer) (port (g.W.Sink.written c.loop-cutter.sink) (g.W.Sink.faults c.loop-cutter.sink)) (port (g.W.Sink.written c.serve_taken.new.sink) (g.W.Sink.faults c.serve_taken.new.sink))) written stops)
+    (subst (λ (buffer : List ℕ). StopsAfter c.args.config.now c.in-Err-serve_taken.end so_far.input so_far.put (take count buffer) (g.W.Sink.port c.loop-cutter.sink) (g.W.Sink.port c.serve_taken.new.sink)) written stops)

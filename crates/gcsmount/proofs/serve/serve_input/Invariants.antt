@@ -1,5 +1,4 @@
 use Rattle.std.proofs.Common.{◌≡◌, ◌+◌, ◌-◌, vec_len}
-use Rattle.gcsmount.specs.Ports.{port}
 use Rattle.gcsmount.specs.Serve.{longest_input}
 use Rattle.gcsmount.specs.Serving.{Progress}
 use Rattle.gcsmount.proofs.serve.serve_input.Given as goal
@@ -7,7 +6,7 @@ use Rattle.gcsmount.proofs.serve.serve_input.Given as goal
 abbrev pub invariant-loop-cutter : goal.invariant-loop-cutter
 invariant-loop-cutter g l = record {
   buffer : vec_len l.buffer ≡ 65536;
-  so_far : Progress l.config (port (g.R.Source.left l.initial.source) (g.R.Source.faults l.initial.source)) (port (g.R.Source.left l.source) (g.R.Source.faults l.source)) (port (g.W.Sink.written l.initial.sink) (g.W.Sink.faults l.initial.sink)) (port (g.W.Sink.written l.sink) (g.W.Sink.faults l.sink)) l.taken l.cutter l.serial;
+  so_far : Progress l.config (g.R.Source.port l.initial.source) (g.R.Source.port l.source) (g.W.Sink.port l.initial.sink) (g.W.Sink.port l.sink) l.taken l.cutter l.serial;
 }
 
 abbrev pub decreases-loop-cutter : goal.decreases-loop-cutter
