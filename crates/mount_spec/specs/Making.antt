@@ -6,7 +6,7 @@ use Rattle.bucket_api.specs.declared.answers.Answer.{Answer}
 use Rattle.bucket_api.specs.declared.answers.Answer.TheVariants as answers
 use Rattle.bucket_api.specs.declared.objects.Pair.{Pair}
 use Rattle.bucket_api.specs.Operation.{insert}
-use Rattle.mount_model.specs.Observing.{Observed}
+use Rattle.mount_spec.specs.Errno.{eexist, eio}
 use Rattle.mount_spec.specs.Plans.{Step, done, ask}
 
 -- the object is empty, and has these pairs
@@ -14,18 +14,23 @@ abbrev pub plan : List ℕ → List Pair → ℕ → List Answer → Step
 plan name pairs second [] = ask (insert name [] pairs (Some 0) second)
 plan name pairs second (a ∷ more) = done
 
--- What came of the insert: a new object, as the bucket told of it at a moment; nothing, since one was live; or the
--- bucket failed.
+-- What came of the insert: a new object, as the bucket told of it; nothing, since one was live; or the bucket failed.
 pub data Made : Type 0 where
-  new : Metadata → ℕ → Made
+  new : Metadata → Made
   exists : Made
   fault : Made
 
-abbrev pub made_by : ℕ → Answer → Made
-made_by moment (answers.Meta meta) = new meta moment
-made_by moment (answers.Precondition generation metageneration) = exists
-made_by moment _ = fault
+abbrev pub made_by : Answer → Made
+made_by (answers.Meta meta) = new meta
+made_by (answers.Precondition generation metageneration) = exists
+made_by _ = fault
 
-abbrev pub made : List Observed → Made
+abbrev pub made : List Answer → Made
 made [] = fault
-made (o ∷ more) = made_by o.moment o.answer
+made (a ∷ more) = made_by a
+
+-- the error that the request is answered, 0 where the object was made
+abbrev pub errno_of : Made → ℕ
+errno_of (new meta) = 0
+errno_of exists = eexist
+errno_of fault = eio

@@ -7,6 +7,12 @@ use Rattle.mount_model.specs.Observing.{Observed}
 abbrev pub answers_of : List Observed → List Answer
 answers_of seen = map (λ (o : Observed). o.answer) seen
 
+-- the moment of the last operation, 0 where none was made
+abbrev pub last_moment : List Observed → ℕ
+last_moment [] = 0
+last_moment (o ∷ []) = o.moment
+last_moment (o ∷ p ∷ more) = last_moment (p ∷ more)
+
 -- A generation of an object, as a file or symlink shows it: the source of its content, and the size of that.
 pub record Source : Type 0 where
   pub name : List ℕ

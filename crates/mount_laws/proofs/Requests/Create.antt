@@ -16,7 +16,7 @@ use Rattle.mount_spec.specs.Errno.{eexist, eio, enomem}
 use Rattle.mount_spec.specs.Guards.{part_refusal}
 use Rattle.mount_spec.specs.Laws.{GivesLater, IsCovered, Keeps, given}
 use Rattle.mount_spec.specs.Mount.{IsMount, MountModel, Node}
-use Rattle.mount_spec.specs.Plans.{Allows}
+use Rattle.mount_spec.specs.Plans.{Allows, answers_of}
 use Rattle.mount_spec.specs.Requests.Create as create
 use Rattle.mount_spec.specs.Making as making
 use Rattle.mount_spec.specs.Making.{Made, new, exists, fault}
@@ -29,24 +29,24 @@ use Rattle.mount_laws.proofs.Mounts.{GivesLater-opened, GivesLater-same, GivesLa
 use Rattle.mount_laws.proofs.Sights.{LooksClaimed-node}
 use Rattle.mount_laws.proofs.Sound.{IsSound}
 
-module _ (mount : MountModel) (is : IsMount mount) (path : List ℕ) where
-  later : IsPath path → (came : Made) → GivesLater mount (create.mount_after mount path came)
-  later path_is (new meta moment) =
+module _ (mount : MountModel) (is : IsMount mount) (path : List ℕ) (moment : ℕ) where
+  later : IsPath path → (came : Made) → GivesLater mount (create.mount_after mount path moment came)
+  later path_is (new meta) =
       let table = GivesLater-table mount is _ (TableLater-granted mount.table (IsNodeTable-of mount is) (new_node path meta moment) (IsNameOf-object meta path path_is) (omega arith)) in
       GivesLater-then table (GivesLater-opened _ table.is (record { node = mount.table.next; items = None }))
   later path_is exists = GivesLater-same mount is
   later path_is fault = GivesLater-same mount is
 
-  leaves : (claimed : List Claim) → IsClaimed claimed (key.Name path) → (came : Made) → Keeps claimed mount (create.mount_after mount path came)
-  leaves claimed name (new meta moment) =
+  leaves : (claimed : List Claim) → IsClaimed claimed (key.Name path) → (came : Made) → Keeps claimed mount (create.mount_after mount path moment came)
+  leaves claimed name (new meta) =
       Keeps-opened claimed mount is (granted mount.table (new_node path meta moment)) (TableKeeps-granted claimed mount.table (new_node path meta moment) is.nodes name)
       (record { node = mount.table.next; items = None })
   leaves claimed name exists = Keeps-same claimed mount
   leaves claimed name fault = Keeps-same claimed mount
 
   counts : (config : Config) (number : ℕ) (came : Made)
-      → lookups_of (create.mount_after mount path came).table number ≡ (lookups_of mount.table number + given (create.reply_to config mount path came) number) - 0
-  counts config number (new meta moment) = counts_more mount.table number mount.table.next (new_node path meta moment) (ap (λ n. n + 1) (sym none))
+      → lookups_of (create.mount_after mount path moment came).table number ≡ (lookups_of mount.table number + given (create.reply_to config mount path moment came) number) - 0
+  counts config number (new meta) = counts_more mount.table number mount.table.next (new_node path meta moment) (ap (λ n. n + 1) (sym none))
     where
       unused : (found : Option Node) → fin.get mount.table.nodes mount.table.next ≡ found → count_of found ≡ 0
       unused None e = refl
@@ -57,10 +57,10 @@ module _ (mount : MountModel) (is : IsMount mount) (path : List ℕ) where
   counts config number exists = omega arith
   counts config number fault = omega arith
 
-answers : (config : Config) (mount : MountModel) (path : List ℕ) (came : Made) → create.reply_to config mount path came ≡ Error enomem → ⊥
-answers config mount path (new meta moment) e = cc
-answers config mount path exists e = let same : eexist ≡ enomem = cc in absurd (omega (arith, same))
-answers config mount path fault e = let same : eio ≡ enomem = cc in absurd (omega (arith, same))
+answers : (config : Config) (mount : MountModel) (path : List ℕ) (moment : ℕ) (came : Made) → create.reply_to config mount path moment came ≡ Error enomem → ⊥
+answers config mount path moment (new meta) e = cc
+answers config mount path moment exists e = let same : eexist ≡ enomem = cc in absurd (omega (arith, same))
+answers config mount path moment fault e = let same : eio ≡ enomem = cc in absurd (omega (arith, same))
 
 -- the one operation is the insert of the path
 covers : (path : List ℕ) (second : ℕ) (answers : List Answer) (node : ℕ) (name : List ℕ) (op : Operation) → Allows (making.plan path [] second answers) op
@@ -70,11 +70,11 @@ covers path second (a ∷ more) node name op allows = absurd allows
 
 pub create_sound : (node : ℕ) (name : List ℕ) → IsSound (create.rules node name) (λ number. 0)
 create_sound node name = record {
-  later = λ config second mount seen goes. later mount goes.is _ (HasPath-none mount node name goes.is goes.free).is_path (making.made seen);
-  leaves = λ config second mount seen goes. leaves mount goes.is _ _ (inr (inl refl)) (making.made seen);
+  later = λ config second mount seen goes. later mount goes.is _ _ (HasPath-none mount node name goes.is goes.free).is_path (making.made (answers_of seen));
+  leaves = λ config second mount seen goes. leaves mount goes.is _ _ _ (inr (inl refl)) (making.made (answers_of seen));
   sees = λ config second mount goes asks. let has = HasPath-none mount node name goes.is goes.free in LooksClaimed-node _ mount node has.sight has.seen (inl refl);
   covers = λ taken answers op allows. covers (create.path_of name taken.view) taken.second answers node name op allows;
   refuses = λ view. in_directory-memory view.node (part_refusal name) (part_refusal-memory name);
-  answers = λ taken mount seen. answers taken.config mount (create.path_of name taken.view) (making.made seen);
-  counts = λ config second mount seen number other goes. counts mount goes.is _ config number (making.made seen);
+  answers = λ taken mount seen. answers taken.config mount (create.path_of name taken.view) _ (making.made (answers_of seen));
+  counts = λ config second mount seen number other goes. counts mount goes.is _ _ config number (making.made (answers_of seen));
 }

@@ -16,7 +16,7 @@ use Rattle.mount_spec.specs.Errno.{eio, enoent, enomem}
 use Rattle.mount_spec.specs.Guards.{part_refusal}
 use Rattle.mount_spec.specs.Laws.{IsCovered, given}
 use Rattle.mount_spec.specs.Mount.{MountModel, NodeTable}
-use Rattle.mount_spec.specs.Plans.{Allows, Step, ask, done}
+use Rattle.mount_spec.specs.Plans.{Allows, Step, answers_of, ask, done}
 use Rattle.mount_spec.specs.Requests.Lookup as lookup
 use Rattle.mount_spec.specs.Requests.Lookup.{Found, directory, object, nothing, fault, Probed, present, absent, failed}
 use Rattle.mount_spec.specs.Rules.{Taken}
@@ -49,30 +49,30 @@ asks_path implicit path suffixed (a ∷ []) claimed op dir name allows = by (loo
 asks_path implicit path suffixed (a ∷ b ∷ more) claimed op dir name allows = absurd allows
 
 -- a look-up is answered by a node, or by one of two errors
-answers : (config : Config) (table : NodeTable) (path : List ℕ) (found : Found) → lookup.reply_to config table path found ≡ Error enomem → ⊥
-answers config table path directory e = cc
-answers config table path (object meta moment) e = cc
-answers config table path nothing e = let same : enoent ≡ enomem = cc in absurd (omega (arith, same))
-answers config table path fault e = let same : eio ≡ enomem = cc in absurd (omega (arith, same))
+answers : (config : Config) (table : NodeTable) (path : List ℕ) (moment : ℕ) (found : Found) → lookup.reply_to config table path moment found ≡ Error enomem → ⊥
+answers config table path moment directory e = cc
+answers config table path moment (object meta) e = cc
+answers config table path moment nothing e = let same : enoent ≡ enomem = cc in absurd (omega (arith, same))
+answers config table path moment fault e = let same : eio ≡ enomem = cc in absurd (omega (arith, same))
 
-module _ (mount : MountModel) (node : ℕ) (part : List ℕ) (is : IsNodeTable mount.table) (has : HasPath mount node part) (path : List ℕ) (path_is : IsPath path) where
-  later : (found : Found) → TableLater mount.table (lookup.table_after mount.table path found)
+module _ (mount : MountModel) (node : ℕ) (part : List ℕ) (is : IsNodeTable mount.table) (has : HasPath mount node part) (path : List ℕ) (path_is : IsPath path) (moment : ℕ) where
+  later : (found : Found) → TableLater mount.table (lookup.table_after mount.table path moment found)
   later directory = shown_later directory_again ShownAgain-directory mount.table (dir_prefix_of path) is (new_directory (dir_prefix_of path)) refl (IsPrefix-path path path_is) (omega arith)
-  later (object meta moment) = shown_later (object_again meta moment) (ShownAgain-object meta moment) mount.table path is (new_node path meta moment) refl (IsNameOf-object meta path path_is) (omega arith)
+  later (object meta) = shown_later (object_again meta moment) (ShownAgain-object meta moment) mount.table path is (new_node path meta moment) refl (IsNameOf-object meta path path_is) (omega arith)
   later nothing = TableLater-same mount.table is
   later fault = TableLater-same mount.table is
 
   leaves : (claimed : List Claim) → IsClaimed claimed (key.Name (dir_prefix_of path)) → IsClaimed claimed (key.Name path) → (found : Found)
-      → TableKeeps claimed mount.table (lookup.table_after mount.table path found)
+      → TableKeeps claimed mount.table (lookup.table_after mount.table path moment found)
   leaves claimed dir name directory = shown_keeps directory_again ShownAgain-directory mount.table (dir_prefix_of path) is (new_directory (dir_prefix_of path)) refl claimed dir
-  leaves claimed dir name (object meta moment) = shown_keeps (object_again meta moment) (ShownAgain-object meta moment) mount.table path is (new_node path meta moment) refl claimed name
+  leaves claimed dir name (object meta) = shown_keeps (object_again meta moment) (ShownAgain-object meta moment) mount.table path is (new_node path meta moment) refl claimed name
   leaves claimed dir name nothing = TableKeeps-same claimed mount.table
   leaves claimed dir name fault = TableKeeps-same claimed mount.table
 
   counts : (config : Config) (number : ℕ) (found : Found)
-      → lookups_of (lookup.table_after mount.table path found) number ≡ (lookups_of mount.table number + given (lookup.reply_to config mount.table path found) number) - 0
+      → lookups_of (lookup.table_after mount.table path moment found) number ≡ (lookups_of mount.table number + given (lookup.reply_to config mount.table path moment found) number) - 0
   counts config number directory = shown_counts directory_again ShownAgain-directory mount.table (dir_prefix_of path) is (new_directory (dir_prefix_of path)) refl refl number
-  counts config number (object meta moment) = shown_counts (object_again meta moment) (ShownAgain-object meta moment) mount.table path is (new_node path meta moment) refl refl number
+  counts config number (object meta) = shown_counts (object_again meta moment) (ShownAgain-object meta moment) mount.table path is (new_node path meta moment) refl refl number
   counts config number nothing = omega arith
   counts config number fault = omega arith
 
@@ -80,18 +80,18 @@ pub lookup_sound : (node : ℕ) (name : List ℕ) → IsSound (lookup.rules node
 lookup_sound node name = record {
   later = λ config second mount seen goes.
       let has = HasPath-none mount node (bare_name name) goes.is goes.free in
-      GivesLater-table mount goes.is _ (later mount node (bare_name name) (IsNodeTable-of mount goes.is) has _ has.is_path (lookup.found seen));
+      GivesLater-table mount goes.is _ (later mount node (bare_name name) (IsNodeTable-of mount goes.is) has _ has.is_path _ (lookup.found (answers_of seen)));
   leaves = λ config second mount seen goes.
       let has = HasPath-none mount node (bare_name name) goes.is goes.free in
-      Keeps-table _ mount _ (leaves mount node (bare_name name) (IsNodeTable-of mount goes.is) has _ has.is_path _ (inr (inr (inl refl))) (inr (inl refl)) (lookup.found seen));
+      Keeps-table _ mount _ (leaves mount node (bare_name name) (IsNodeTable-of mount goes.is) has _ has.is_path _ _ (inr (inr (inl refl))) (inr (inl refl)) (lookup.found (answers_of seen)));
   sees = λ config second mount goes asks.
       let has = HasPath-none mount node (bare_name name) goes.is goes.free in
       LooksClaimed-node _ mount node has.sight has.seen (inl refl);
   covers = λ taken answers op allows.
       asks_path taken.config.implicit_dirs (lookup.path_of name taken.view) (has_suffix name) answers (lookup.claims node name taken.view) op (inr (inr (inl refl))) (inr (inl refl)) allows;
   refuses = λ view. in_directory-memory view.node (part_refusal (bare_name name)) (part_refusal-memory (bare_name name));
-  answers = λ taken mount seen. answers taken.config mount.table (lookup.path_of name taken.view) (lookup.found seen);
+  answers = λ taken mount seen. answers taken.config mount.table (lookup.path_of name taken.view) _ (lookup.found (answers_of seen));
   counts = λ config second mount seen number other goes.
       let has = HasPath-none mount node (bare_name name) goes.is goes.free in
-      counts mount node (bare_name name) (IsNodeTable-of mount goes.is) has _ has.is_path config number (lookup.found seen);
+      counts mount node (bare_name name) (IsNodeTable-of mount goes.is) has _ has.is_path _ config number (lookup.found (answers_of seen));
 }

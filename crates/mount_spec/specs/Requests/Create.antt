@@ -14,6 +14,7 @@ use Rattle.mount_spec.specs.Guards.{in_directory, part_refusal, path_in}
 use Rattle.mount_spec.specs.Making as making
 use Rattle.mount_spec.specs.Making.{Made, new, exists, fault}
 use Rattle.mount_spec.specs.Mount.{MountModel, Node}
+use Rattle.mount_spec.specs.Plans.{answers_of, last_moment}
 use Rattle.mount_spec.specs.Rules.{Rules, at_node}
 use Rattle.mount_spec.specs.Showing.{new_node}
 use Rattle.mount_spec.specs.View.{View}
@@ -32,15 +33,15 @@ with_new_file mount node = record mount {
   next_handle = mount.next_handle + 1;
 }
 
-abbrev pub reply_to : Config → MountModel → List ℕ → Made → Reply
-reply_to config mount path (new meta moment) = Created (entry_of config mount.table.next (new_node path meta moment)) mount.next_handle
-reply_to config mount path exists = Error eexist
-reply_to config mount path fault = Error eio
+abbrev pub reply_to : Config → MountModel → List ℕ → ℕ → Made → Reply
+reply_to config mount path moment (new meta) = Created (entry_of config mount.table.next (new_node path meta moment)) mount.next_handle
+reply_to config mount path moment exists = Error eexist
+reply_to config mount path moment fault = Error eio
 
-abbrev pub mount_after : MountModel → List ℕ → Made → MountModel
-mount_after mount path (new meta moment) = with_new_file mount (new_node path meta moment)
-mount_after mount path exists = mount
-mount_after mount path fault = mount
+abbrev pub mount_after : MountModel → List ℕ → ℕ → Made → MountModel
+mount_after mount path moment (new meta) = with_new_file mount (new_node path meta moment)
+mount_after mount path moment exists = mount
+mount_after mount path moment fault = mount
 
 abbrev pub claims : ℕ → List ℕ → View → List Claim
 claims node name view = shares_node node ∷ owns_name (path_of name view) ∷ []
@@ -53,6 +54,6 @@ rules node name = record {
   wants = λ view. None;
   claims = claims node name;
   keys = λ view. [];
-  reply = λ taken mount seen. reply_to taken.config mount (path_of name taken.view) (making.made seen);
-  after = λ taken mount seen. mount_after mount (path_of name taken.view) (making.made seen);
+  reply = λ taken mount seen. reply_to taken.config mount (path_of name taken.view) (last_moment seen) (making.made (answers_of seen));
+  after = λ taken mount seen. mount_after mount (path_of name taken.view) (last_moment seen) (making.made (answers_of seen));
 }

@@ -16,8 +16,7 @@ use Rattle.mount_spec.specs.Claiming.{shares_node, shares_name}
 use Rattle.mount_spec.specs.Errno.{eio, enoent}
 use Rattle.mount_spec.specs.Guards.{in_directory, part_refusal, path_in}
 use Rattle.mount_spec.specs.Mount.{MountModel, NodeTable}
-use Rattle.mount_model.specs.Observing.{Observed}
-use Rattle.mount_spec.specs.Plans.{Step, done, ask}
+use Rattle.mount_spec.specs.Plans.{Step, answers_of, ask, done, last_moment}
 use Rattle.mount_spec.specs.Rules.{Rules, at_node}
 use Rattle.mount_spec.specs.Showing.{Numbered, shown_by, after_showing, directory_by, after_directory}
 use Rattle.mount_spec.specs.View.{View}
@@ -58,10 +57,10 @@ plan implicit path suffixed [] = ask (probe implicit path)
 plan implicit path suffixed (a ∷ []) = after_probe path suffixed (probed a)
 plan implicit path suffixed (a ∷ b ∷ more) = done
 
--- What a look-up found: a directory, an object as the bucket told of it at a moment, or neither; or the bucket failed.
+-- What a look-up found: a directory, an object as the bucket told of it, or neither; or the bucket failed.
 pub data Found : Type 0 where
   directory : Found
-  object : Metadata → ℕ → Found
+  object : Metadata → Found
   nothing : Found
   fault : Found
 
@@ -70,29 +69,36 @@ found_by present = directory
 found_by absent = nothing
 found_by failed = fault
 
-abbrev pub found_at : ℕ → Answer → Found
-found_at moment (answers.Meta meta) = object meta moment
-found_at moment answers.NotFound = nothing
-found_at moment _ = fault
+abbrev pub found_at : Answer → Found
+found_at (answers.Meta meta) = object meta
+found_at answers.NotFound = nothing
+found_at _ = fault
 
-abbrev pub found : List Observed → Found
+abbrev pub found : List Answer → Found
 found [] = fault
-found (o ∷ []) = found_by (probed o.answer)
-found (o ∷ p ∷ more) = found_at p.moment p.answer
+found (a ∷ []) = found_by (probed a)
+found (a ∷ b ∷ more) = found_at b
 
--- what a look-up that found this is answered
-abbrev pub reply_to : Config → NodeTable → List ℕ → Found → Reply
-reply_to config table path directory = let shown = directory_by table (dir_prefix_of path) in Entry (entry_of config shown.number shown.node)
-reply_to config table path (object meta moment) = let shown = shown_by table path meta moment in Entry (entry_of config shown.number shown.node)
-reply_to config table path nothing = Error enoent
-reply_to config table path fault = Error eio
+-- the error that it is answered, 0 where it is a node
+abbrev pub errno_of : Found → ℕ
+errno_of directory = 0
+errno_of (object meta) = 0
+errno_of nothing = enoent
+errno_of fault = eio
+
+-- what a look-up that found this at a moment is answered
+abbrev pub reply_to : Config → NodeTable → List ℕ → ℕ → Found → Reply
+reply_to config table path moment directory = let shown = directory_by table (dir_prefix_of path) in Entry (entry_of config shown.number shown.node)
+reply_to config table path moment (object meta) = let shown = shown_by table path meta moment in Entry (entry_of config shown.number shown.node)
+reply_to config table path moment nothing = Error enoent
+reply_to config table path moment fault = Error eio
 
 -- the nodes that are then there
-abbrev pub table_after : NodeTable → List ℕ → Found → NodeTable
-table_after table path directory = after_directory table (dir_prefix_of path)
-table_after table path (object meta moment) = after_showing table path meta moment
-table_after table path nothing = table
-table_after table path fault = table
+abbrev pub table_after : NodeTable → List ℕ → ℕ → Found → NodeTable
+table_after table path moment directory = after_directory table (dir_prefix_of path)
+table_after table path moment (object meta) = after_showing table path meta moment
+table_after table path moment nothing = table
+table_after table path moment fault = table
 
 abbrev pub claims : ℕ → List ℕ → View → List Claim
 claims node name view = shares_node node ∷ shares_name (path_of name view) ∷ shares_name (dir_prefix_of (path_of name view)) ∷ []
@@ -105,6 +111,6 @@ rules node name = record {
   wants = λ view. None;
   claims = claims node name;
   keys = λ view. dir_prefix_of (path_of name view) ∷ path_of name view ∷ [];
-  reply = λ taken mount seen. reply_to taken.config mount.table (path_of name taken.view) (found seen);
-  after = λ taken mount seen. record mount { table = table_after mount.table (path_of name taken.view) (found seen) };
+  reply = λ taken mount seen. reply_to taken.config mount.table (path_of name taken.view) (last_moment seen) (found (answers_of seen));
+  after = λ taken mount seen. record mount { table = table_after mount.table (path_of name taken.view) (last_moment seen) (found (answers_of seen)) };
 }

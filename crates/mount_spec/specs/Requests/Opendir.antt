@@ -1,17 +1,18 @@
 -- OPENDIR: opens a directory. Its entries are listed at once, page after page to the last, and stay as they are for the
 -- handle (fuse.h: `struct fuse_open_out`).
-use Rattle.std.specs.Prelude.{ℕ, ◌+◌, true, [], ◌∷◌, Bool, List, Option, Some, None, option_map}
+use Rattle.std.specs.Prelude.{ℕ, ◌+◌, true, [], ◌∷◌, Bool, List, Option, Some, None, is_some, if◌then◌else◌}
 use Rattle.std.specs.FinMap as fin
+use Rattle.std.specs.List.{filter_map, list_all}
 use Rattle.std.specs.Option.{option_map_or}
 use Rattle.bucket_api.specs.PageData.{PageData}
 use Rattle.bucket_api.specs.declared.answers.Answer.{Answer}
 use Rattle.bucket_api.specs.declared.answers.Answer.TheVariants as answers
 use Rattle.bucket_api.specs.Operation.{list}
 use Rattle.claim_spec.specs.declared.claim.Claim.{Claim}
-use Rattle.dir_listing.specs.Pages.{none_listed, with_page}
+use Rattle.dir_listing.specs.Pages.{none_listed, with_pages}
 use Rattle.fuse_replies.specs.declared.reply.Reply.{Reply}
 use Rattle.fuse_replies.specs.declared.reply.Reply.TheVariants.{Error, Opened}
-use Rattle.object_names.specs.ShownNames.{Listed, shown_entries}
+use Rattle.object_names.specs.ShownNames.{shown_entries}
 use Rattle.object_names.specs.declared.shown.DirItem.{DirItem}
 use Rattle.mount_spec.specs.Claiming.{shares_node}
 use Rattle.mount_spec.specs.Errno.{eio}
@@ -34,15 +35,22 @@ plan prefix max after [] = ask (list prefix true max after)
 plan prefix max after (answers.Page page ∷ more) = option_map_or (λ key. plan prefix max (Some key) more) page.next done
 plan prefix max after (_ ∷ more) = done
 
--- what the pages listed, unless the bucket failed
-abbrev pub listed : Listed → List Answer → Option Listed
-listed sofar [] = Some sofar
-listed sofar (answers.Page page ∷ more) = listed (with_page sofar page) more
-listed sofar (_ ∷ more) = None
+-- the page of an answer that is one
+abbrev pub page_in : Answer → Option PageData
+page_in (answers.Page page) = Some page
+page_in _ = None
 
--- the entries of the directory
+abbrev pub is_page : Answer → Bool
+is_page answer = is_some (page_in answer)
+
+-- the entries of the directory, by all its pages; none where the bucket failed
 abbrev pub entries : List ℕ → Bool → List Answer → Option (List DirItem)
-entries prefix implicit pages = option_map shown_entries (listed (none_listed prefix implicit) pages)
+entries prefix implicit told =
+    if list_all is_page told then Some (shown_entries (with_pages (none_listed prefix implicit) (filter_map page_in told))) else None
+
+-- the error that it is answered, 0 where it is a handle
+abbrev pub errno_of : List Answer → ℕ
+errno_of told = if list_all is_page told then 0 else eio
 
 abbrev pub reply_to : MountModel → Option (List DirItem) → Reply
 reply_to mount None = Error eio

@@ -1,0 +1,12 @@
+//! What a request on names asks of the bucket next, by what it was answered so far; for the mount that makes its
+//! operations one after the other, and for the one that makes those of many calls at once.
+#![tactic(auto)]
+
+mod errand;
+mod found;
+mod listing;
+mod lookup;
+mod making;
+
+pub use errand::{NameErrand, errno, next_op};
+pub use found::{Found, Made, found, made};
