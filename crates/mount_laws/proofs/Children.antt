@@ -1,10 +1,12 @@
 -- The paths of children: a part of a live directory has a path, and a directory's prefix.
-use Rattle.std.proofs.Common.{◌≡◌, ◌≤◌, ℕ, Bool, true, false, List, [], ◌∷◌, ◌++◌, Option, Some, None, refl, sym, ap, subst, ◌∙◌, length, option_map, arith}
+use Rattle.std.proofs.Common.{◌≡◌, ◌≤◌, ℕ, Bool, true, false, List, [], ◌∷◌, ◌++◌, Option, Some, None, refl, sym, ap, subst, ◌∙◌, length, option_map}
+use Rattle.std.proofs.lemmas.List.Elements.{All-nil}
 use Rattle.std.specs.Prelude.{option_and_then}
 use Rattle.std.specs.FinMap as fin
 use Rattle.bucket_api.specs.Metadata.{Metadata}
 use Rattle.dir_listing.specs.Kinds.{file_or_link, has_target}
 use Rattle.object_names.proofs.PathLemmas.{IsPrefix-dir}
+use Rattle.object_names.specs.Components.{IsComponent}
 use Rattle.object_names.specs.Paths.{IsPath, IsPrefix, dir_prefix_of}
 use Rattle.object_names.specs.declared.shown.NodeKind.{NodeKind}
 use Rattle.object_names.specs.declared.shown.NodeKind.TheVariants.{Dir}
@@ -65,7 +67,7 @@ pub IsPrefix-path : (path : List ℕ) → IsPath path → IsPrefix (dir_prefix_o
 IsPrefix-path path is = by path is
   where
     by : (p : List ℕ) → IsPath p → IsPrefix (dir_prefix_of p)
-    by [] is = record { parts = []; components = λ i low. absurd (omega arith); is = refl }
+    by [] is = record { parts = []; components = All-nil IsComponent; is = refl }
     by (byte ∷ p) is = IsPrefix-dir (byte ∷ p) is
 
 -- an object's node is a file or a symlink, which its path names

@@ -8,7 +8,8 @@ use Rattle.inode_spec.specs.Inodes.{first_table, forgotten, forgotten_at, left_w
 use Rattle.mount_spec.specs.Mount.{File, Node, NodeTable}
 use Rattle.spare_maps.proofs.FinMaps.{get-insert_number, get-remove_number, number_put_other}
 
-abbrev count_of : Option Node → ℕ
+-- the look-ups of what is found, none where nothing is
+abbrev pub count_of : Option Node → ℕ
 count_of found = option_map_or (λ (node : Node). node.lookups) found 0
 
 -- in a new table no node but the root is there

@@ -12,7 +12,7 @@ use Rattle.object_names.specs.declared.component.NameFault.TheVariants.{TooLong}
 use Rattle.object_names.specs.declared.shown.DirItem.{DirItem}
 use Rattle.object_names.specs.declared.shown.NodeKind.{NodeKind}
 use Rattle.object_names.specs.declared.shown.NodeKind.TheVariants.{Dir, File, Symlink}
-use Rattle.mount_spec.specs.Errno.{ebadf, enomem, enotdir, estale}
+use Rattle.mount_spec.specs.Errno.{ebadf, enametoolong, enomem, enotdir, estale}
 use Rattle.mount_spec.specs.Guards.{entries_opened, errno_of_fault, in_directory, is_directory, on_live, on_open_directory, part_refusal}
 use Rattle.mount_spec.specs.View.{Sight, child_of}
 
@@ -66,12 +66,12 @@ pub record IsChild (directory : Sight) (part : List ℕ) : Type 0 where
 pub part_refusal-none : (part : List ℕ) (directory : Sight) → part_refusal part directory ≡ None → IsChild directory part
 part_refusal-none part directory none = by (name_fault part) refl none
   where
-    short : (b : Bool) → nat_le (length (child_of directory part)) path_max ≡ b → (if b then None else Some 36) ≡ None → length (child_of directory part) ≤ path_max
+    short : (b : Bool) → nat_le (length (child_of directory part)) path_max ≡ b → (if b then None else Some enametoolong) ≡ None → length (child_of directory part) ≤ path_max
     short true is e = grind (arith, nat_tests, is)
     short false is e = absurd (refuses e)
 
     by : (fault : Option NameFault) → name_fault part ≡ fault
-        → option_map_or (λ f. Some (errno_of_fault f)) fault (if nat_le (length (child_of directory part)) path_max then None else Some 36) ≡ None → IsChild directory part
+        → option_map_or (λ f. Some (errno_of_fault f)) fault (if nat_le (length (child_of directory part)) path_max then None else Some enametoolong) ≡ None → IsChild directory part
     by None is e = record { component = IsComponent-from_no_fault part is; short = short (nat_le (length (child_of directory part)) path_max) refl e }
     by (Some fault) is e = absurd (refuses e)
 
@@ -116,7 +116,7 @@ in_directory-memory seen next other = on_live-memory seen _ (λ sight. by sight 
 pub part_refusal-memory : (part : List ℕ) (directory : Sight) → part_refusal part directory ≡ Some enomem → ⊥
 part_refusal-memory part directory e = by (name_fault part) e
   where
-    long : (b : Bool) → (if b then None else Some 36) ≡ Some enomem → ⊥
+    long : (b : Bool) → (if b then None else Some enametoolong) ≡ Some enomem → ⊥
     long true e = cc
     long false e = errors_differ (λ same. absurd (omega (arith, same))) e
 
@@ -124,7 +124,7 @@ part_refusal-memory part directory e = by (name_fault part) e
     of_fault TooLong e = errors_differ (λ same. absurd (omega (arith, same))) e
     of_fault fault e = errors_differ (λ same. absurd (omega (arith, same))) e
 
-    by : (fault : Option NameFault) → option_map_or (λ f. Some (errno_of_fault f)) fault (if nat_le (length (child_of directory part)) path_max then None else Some 36) ≡ Some enomem → ⊥
+    by : (fault : Option NameFault) → option_map_or (λ f. Some (errno_of_fault f)) fault (if nat_le (length (child_of directory part)) path_max then None else Some enametoolong) ≡ Some enomem → ⊥
     by None e = long (nat_le (length (child_of directory part)) path_max) e
     by (Some fault) e = of_fault fault e
 

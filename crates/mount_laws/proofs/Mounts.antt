@@ -2,13 +2,14 @@
 use Rattle.std.proofs.Common.{◌≡◌, ◌≢◌, ◌<◌, ◌≤◌, ◌+◌, ◌-◌, ℕ, Bool, true, false, cond, List, [], Option, Some, None, refl, sym, ap, subst, ◌∙◌, ◌⊎◌, inl, inr, nat_eq, nat_cmp, nat_le, nat_lt, arith}
 use Rattle.std.proofs.lemmas.Bool.{false≢true}
 use Rattle.std.proofs.lemmas.Bool.Decides.{Decides-eqb, nat_tests}
-use Rattle.std.proofs.lemmas.Slice.Eq.{bytes_eq-Decides}
+use Rattle.std.proofs.lemmas.List.Elements.{All-nil}
 use Rattle.std.specs.Prelude.{if◌then◌else◌, ◌&&◌, ◌||◌, is_some}
 use Rattle.std.specs.Cmp.Lexicographic.{slice_cmp}
 use Rattle.std.specs.FinMap as fin
 use Rattle.std.specs.Option.{option_map_or}
 use Rattle.handle_table.specs.Handles.{Opened}
 use Rattle.inode_spec.specs.Inodes.{Names, first_table, forgotten_at, granted, is_live, left_without, root, with_inode, without_current}
+use Rattle.object_names.specs.Components.{IsComponent}
 use Rattle.object_names.specs.Paths.{IsPrefix, prefix_of}
 use Rattle.mount_spec.specs.Laws.{GivesLater}
 use Rattle.mount_spec.specs.Mount.{File, IsCurrent, IsMount, IsNameOf, MountModel, Node, NodeTable, OpenHandles, first_mount}
@@ -248,7 +249,7 @@ IsMount-first = record {
     nodes n node (inr was) = absurd (no_node n node was)
 
     root_named : IsPrefix []
-    root_named = record { parts = []; components = λ i low. absurd (omega arith); is = refl }
+    root_named = record { parts = []; components = All-nil IsComponent; is = refl }
 
     names : (n : ℕ) (node : Node) → ((n ≡ 1) × (root ≡ node)) ⊎ (fin.get {R = nat_cmp} fin.empty n ≡ Some node) → IsNameOf node.kind node.name
     names n node (inl (same, one)) = subst (λ (x : Node). IsNameOf x.kind x.name) one root_named

@@ -1,7 +1,7 @@
 -- Every request's rules are sound, one line each; and the laws over all requests that follow.
 use Rattle.std.proofs.Common.{◌≡◌, ◌≢◌, ◌+◌, ◌-◌, ℕ, Bool, true, false, List, [], Option, Some, None, refl, sym, ap, subst, ◌∙◌, arith}
 use Rattle.std.proofs.lemmas.Bool.{false≢true}
-use Rattle.std.specs.Prelude.{if◌then◌else◌, not, ◌&&◌, is_some}
+use Rattle.std.specs.Prelude.{if◌then◌else◌, not, ◌&&◌, ◌==◌, is_some}
 use Rattle.std.specs.Option.{option_map_or}
 use Rattle.claim_spec.specs.Conflicts.{AreApart}
 use Rattle.fuse_replies.specs.declared.reply.Reply.{Reply}
@@ -15,7 +15,7 @@ use Rattle.mount_spec.specs.Errno.{einval, enomem, enosys, eproto}
 use Rattle.mount_spec.specs.Laws.{ClaimsCover, ClaimsProtect, GivesLater, IsCovered, Keeps, LeavesOthers, NeverOutOfMemory, StaysMount, given, given_back}
 use Rattle.mount_spec.specs.Mount.{IsMount, MountModel}
 use Rattle.mount_model.specs.Observing.{Observed}
-use Rattle.mount_spec.specs.Plans.{Allows, Source, Step, answers_of, done}
+use Rattle.mount_spec.specs.Plans.{Allows, Plan, Source, Step, answers_of, done}
 use Rattle.mount_spec.specs.Rules.{Rules, Taken}
 use Rattle.mount_spec.specs.View.{view_of}
 use Rattle.mount_laws.proofs.Guarding.{errors_differ}
@@ -200,7 +200,10 @@ counts config second mount request seen number is other = by (is_idle mount requ
 pub back_asks : (config : Config) (second : ℕ) (mount : MountModel) (request : Request) (number : ℕ) → plan config second mount request [] ≢ done → given_back mount request number ≡ 0
 back_asks config second mount (Forget node count) number asks = by (goes_on mount (Forget node count)) asks
   where
-    by : (on : Bool) → ((if on then (λ answers. done) else (λ answers. done)) [] ≢ done) → given_back mount (Forget node count) number ≡ 0
+    quiet : Plan
+    quiet = λ answers. done
+
+    by : (on : Bool) → ((if on then quiet else quiet) [] ≢ done) → given_back mount (Forget node count) number ≡ 0
     by true asks = absurd (asks refl)
     by false asks = absurd (asks refl)
 back_asks config second mount _ number asks = refl

@@ -12,6 +12,7 @@ use Rattle.handle_table.specs.Handles.{Opened}
 use Rattle.inode_spec.specs.Inodes.{granted, lookups_of}
 use Rattle.mount_model.specs.declared.config.Config.{Config}
 use Rattle.object_names.specs.Paths.{IsPath}
+use Rattle.mount_spec.specs.Claiming.{owns_name, shares_node}
 use Rattle.mount_spec.specs.Errno.{eexist, eio, enomem}
 use Rattle.mount_spec.specs.Guards.{part_refusal}
 use Rattle.mount_spec.specs.Laws.{GivesLater, IsCovered, Keeps, given}
@@ -63,17 +64,17 @@ answers config mount path moment exists e = let same : eexist ≡ enomem = cc in
 answers config mount path moment fault e = let same : eio ≡ enomem = cc in absurd (omega (arith, same))
 
 -- the one operation is the insert of the path
-covers : (path : List ℕ) (second : ℕ) (answers : List Answer) (node : ℕ) (name : List ℕ) (op : Operation) → Allows (making.plan path [] second answers) op
-    → IsCovered (_ ∷ record { key = key.Name path; exclusive = true } ∷ []) op
-covers path second [] node name op allows = subst (IsCovered _) (sym allows) (inr (inl (refl, refl)))
-covers path second (a ∷ more) node name op allows = absurd allows
+covers : (path : List ℕ) (second : ℕ) (answers : List Answer) (node : ℕ) (op : Operation) → Allows (making.plan path [] second answers) op
+    → IsCovered (shares_node node ∷ owns_name path ∷ []) op
+covers path second [] node op allows = subst (IsCovered (shares_node node ∷ owns_name path ∷ [])) (sym allows) (inr (inl (refl, refl)))
+covers path second (a ∷ more) node op allows = absurd allows
 
 pub create_sound : (node : ℕ) (name : List ℕ) → IsSound (create.rules node name) (λ number. 0)
 create_sound node name = record {
   later = λ config second mount seen goes. later mount goes.is _ _ (HasPath-none mount node name goes.is goes.free).is_path (making.made (answers_of seen));
   leaves = λ config second mount seen goes. leaves mount goes.is _ _ _ (inr (inl refl)) (making.made (answers_of seen));
   sees = λ config second mount goes asks. let has = HasPath-none mount node name goes.is goes.free in LooksClaimed-node _ mount node has.sight has.seen (inl refl);
-  covers = λ taken answers op allows. covers (create.path_of name taken.view) taken.second answers node name op allows;
+  covers = λ taken answers op allows. covers (create.path_of name taken.view) taken.second answers node op allows;
   refuses = λ view. in_directory-memory view.node (part_refusal name) (part_refusal-memory name);
   answers = λ taken mount seen. answers taken.config mount (create.path_of name taken.view) _ (making.made (answers_of seen));
   counts = λ config second mount seen number other goes. counts mount goes.is _ _ config number (making.made (answers_of seen));

@@ -1,5 +1,5 @@
 -- INIT.
-use Rattle.std.proofs.Common.{◌≡◌, ◌≢◌, ◌+◌, ◌-◌, ℕ, Bool, true, false, refl, arith, Some, None, sym, ap}
+use Rattle.std.proofs.Common.{◌≡◌, ◌≢◌, ◌+◌, ◌-◌, ℕ, Bool, true, false, [], refl, arith, Some, None, sym, ap}
 use Rattle.std.proofs.lemmas.Bool.Decides.{nat_tests}
 use Rattle.std.specs.Prelude.{if◌then◌else◌, bit_and}
 use Rattle.fuse_replies.specs.declared.reply.Reply.{Reply}
@@ -18,9 +18,9 @@ module _ (major minor readahead flags : ℕ) where
   later mount is true = GivesLater-negotiated mount is true
   later mount is false = GivesLater-same mount is
 
-  leaves : (mount : MountModel) (taken : Bool) → Keeps _ mount (if taken then record mount { negotiated = true } else mount)
+  leaves : (mount : MountModel) (taken : Bool) → Keeps [] mount (if taken then record mount { negotiated = true } else mount)
   leaves mount true = record { sights = λ number sight is mine. is; handles = λ fh handle is mine. is; kept = λ number sight is mine named. refl; current = λ name mine owned. refl }
-  leaves mount false = Keeps-same _ mount
+  leaves mount false = Keeps-same [] mount
 
   counts : (mount : MountModel) (number : ℕ) (taken : Bool) → lookups_of (if taken then record mount { negotiated = true } else mount).table number ≡ lookups_of mount.table number
   counts mount number true = refl

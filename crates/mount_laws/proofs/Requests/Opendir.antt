@@ -9,6 +9,7 @@ use Rattle.claim_spec.specs.declared.claim.Claim.{Claim}
 use Rattle.fuse_replies.specs.declared.reply.Reply.TheVariants.{Error}
 use Rattle.inode_spec.specs.Inodes.{lookups_of}
 use Rattle.object_names.specs.declared.shown.DirItem.{DirItem}
+use Rattle.mount_spec.specs.Claiming.{shares_node}
 use Rattle.mount_spec.specs.Errno.{eio, enomem}
 use Rattle.mount_spec.specs.Guards.{in_directory}
 use Rattle.mount_spec.specs.Laws.{GivesLater, IsCovered, Keeps, given}
@@ -29,14 +30,12 @@ no_error e = cc
 covers : (prefix : List ℕ) (max : ℕ) (after : Option (List ℕ)) (told : List Answer) (claimed : List Claim) (op : Operation)
     → Allows (opendir.plan prefix max after told) op → IsCovered claimed op
 covers prefix max after [] claimed op allows = subst (IsCovered claimed) (sym allows) tt
-covers prefix max after (answers.Page page ∷ more) claimed op allows = by page.next allows
+covers prefix max after (answers.Page page ∷ more) claimed op allows = by (λ key. covers prefix max (Some key) more claimed op) page.next allows
   where
-    further : (key : List ℕ) → Allows (opendir.plan prefix max (Some key) more) op → IsCovered claimed op
-    further key allows = covers prefix max (Some key) more claimed op allows
-
-    by : (next : Option (List ℕ)) → Allows (option_map_or (λ key. opendir.plan prefix max (Some key) more) next done) op → IsCovered claimed op
-    by None allows = absurd allows
-    by (Some key) allows = further key allows
+    by : ((key : List ℕ) → Allows (opendir.plan prefix max (Some key) more) op → IsCovered claimed op)
+        → (next : Option (List ℕ)) → Allows (option_map_or (λ key. opendir.plan prefix max (Some key) more) next done) op → IsCovered claimed op
+    by further None allows = absurd allows
+    by further (Some key) allows = further key allows
 covers prefix max after (answers.Meta meta ∷ more) claimed op allows = absurd allows
 covers prefix max after (answers.Bytes bytes ∷ more) claimed op allows = absurd allows
 covers prefix max after (answers.Done ∷ more) claimed op allows = absurd allows
@@ -67,7 +66,7 @@ opendir_sound node = record {
   later = λ config second mount seen goes. later mount goes.is node _;
   leaves = λ config second mount seen goes. leaves mount goes.is node _ _;
   sees = λ config second mount goes asks. let d = in_directory-none _ (λ (sight : Sight). None) goes.free in LooksClaimed-node _ mount node d.sight d.is (inl refl);
-  covers = λ taken told op allows. covers (opendir.prefix_of taken.view) taken.config.list_page None told _ op allows;
+  covers = λ taken told op allows. covers (opendir.prefix_of taken.view) taken.config.list_page None told (shares_node node ∷ []) op allows;
   refuses = λ view. in_directory-memory view.node (λ sight. None) (λ sight. no_error);
   answers = λ taken mount seen. reply_answers mount _;
   counts = λ config second mount seen number other goes. counts mount goes.is node number _;

@@ -1,8 +1,9 @@
 -- RELEASEDIR.
-use Rattle.std.proofs.Common.{◌≡◌, ◌+◌, ◌-◌, ℕ, List, Some, None, refl, sym, ap, subst, arith, inl}
+use Rattle.std.proofs.Common.{◌≡◌, ◌+◌, ◌-◌, ℕ, List, [], ◌∷◌, Some, None, refl, sym, ap, subst, arith, inl}
 use Rattle.claim_spec.specs.Conflicts.{IsOwned}
 use Rattle.claim_spec.specs.declared.claim.ClaimKey.TheVariants as key
 use Rattle.fuse_replies.specs.declared.reply.Reply.TheVariants.{Error, Empty}
+use Rattle.mount_spec.specs.Claiming.{owns_node}
 use Rattle.mount_spec.specs.Errno.{enomem}
 use Rattle.mount_spec.specs.Requests.Releasedir as releasedir
 use Rattle.mount_laws.proofs.Guarding.{on_open_directory-memory, on_open_directory-none}
@@ -21,7 +22,7 @@ releasedir_sound node fh = record {
   later = λ config second mount seen goes. GivesLater-released mount goes.is fh;
   leaves = λ config second mount seen goes.
       let open_ = on_open_directory-none node _ _ goes.free in
-      Keeps-released _ mount fh open_.handle open_.is (subst (λ n. IsOwned _ (key.Node n)) (sym open_.node_is) (inl (refl, refl)));
+      Keeps-released _ mount fh open_.handle open_.is (subst (λ n. IsOwned (owns_node node ∷ []) (key.Node n)) (sym open_.node_is) (inl (refl, refl)));
   sees = λ config second mount goes asks. absurd (asks refl);
   covers = λ taken told op allows. absurd allows;
   refuses = λ view. on_open_directory-memory node view.handle _ (λ items. no_error);
