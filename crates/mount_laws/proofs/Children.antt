@@ -10,9 +10,9 @@ use Rattle.object_names.specs.Components.{IsComponent}
 use Rattle.object_names.specs.Paths.{IsPath, IsPrefix, dir_prefix_of}
 use Rattle.object_names.specs.declared.shown.NodeKind.{NodeKind}
 use Rattle.object_names.specs.declared.shown.NodeKind.TheVariants.{Dir}
-use Rattle.mount_spec.specs.Guards.{in_directory, part_refusal, path_in}
-use Rattle.mount_spec.specs.Mount.{IsMount, IsNameOf, MountModel, Node, NodeTable}
-use Rattle.mount_spec.specs.View.{Sight, child_of, sight_at, sight_of}
+use Rattle.mount_rules.specs.Guards.{in_directory, part_refusal, path_in}
+use Rattle.mount_rules.specs.Mount.{IsMount, IsNameOf, MountModel, Node, NodeTable}
+use Rattle.mount_rules.specs.View.{Sight, child_of, sight_at, sight_of}
 use Rattle.mount_laws.proofs.Guarding.{IsChild, SeesDirectory, in_directory-none, part_refusal-none}
 use Rattle.mount_laws.proofs.Keeping.{no_Some, same_Some}
 

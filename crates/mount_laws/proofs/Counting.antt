@@ -5,7 +5,7 @@ use Rattle.std.specs.Prelude.{if◌then◌else◌, ◌&&◌, is_some}
 use Rattle.std.specs.FinMap as fin
 use Rattle.std.specs.Option.{option_map_or}
 use Rattle.inode_spec.specs.Inodes.{first_table, forgotten, forgotten_at, left_without, lookups_of, root, with_inode, without_current}
-use Rattle.mount_spec.specs.Mount.{File, Node, NodeTable}
+use Rattle.mount_rules.specs.Mount.{File, Node, NodeTable}
 use Rattle.spare_maps.proofs.FinMaps.{get-insert_number, get-remove_number, number_put_other}
 
 -- the look-ups of what is found, none where nothing is

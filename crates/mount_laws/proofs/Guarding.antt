@@ -12,9 +12,9 @@ use Rattle.object_names.specs.declared.component.NameFault.TheVariants.{TooLong}
 use Rattle.object_names.specs.declared.shown.DirItem.{DirItem}
 use Rattle.object_names.specs.declared.shown.NodeKind.{NodeKind}
 use Rattle.object_names.specs.declared.shown.NodeKind.TheVariants.{Dir, File, Symlink}
-use Rattle.mount_spec.specs.Errno.{ebadf, enametoolong, enomem, enotdir, estale}
-use Rattle.mount_spec.specs.Guards.{entries_opened, errno_of_fault, in_directory, is_directory, on_live, on_open_directory, part_refusal}
-use Rattle.mount_spec.specs.View.{Sight, child_of}
+use Rattle.mount_rules.specs.Errno.{ebadf, enametoolong, enomem, enotdir, estale}
+use Rattle.mount_rules.specs.Guards.{entries_opened, errno_of_fault, in_directory, is_directory, on_live, on_open_directory, part_refusal}
+use Rattle.mount_rules.specs.View.{Sight, child_of}
 
 -- a live node was seen, and what comes behind the guard refuses nothing either
 pub record SeesLive (seen : Option Sight) (next : Sight → Option ℕ) : Type 0 where

@@ -13,9 +13,9 @@ use Rattle.claim_spec.specs.declared.claim.ClaimKey.{ClaimKey}
 use Rattle.claim_spec.specs.declared.claim.ClaimKey.TheVariants as key
 use Rattle.inode_spec.specs.Inodes.{Names, granted, with_inode, forgotten_at, left_without, without_current}
 use Rattle.handle_table.specs.Handles.{Opened}
-use Rattle.mount_spec.specs.Mount.{File, IsMount, Node, NodeTable, MountModel}
-use Rattle.mount_spec.specs.Laws.{Keeps}
-use Rattle.mount_spec.specs.View.{Sight, kept_at, sight_at, sight_of}
+use Rattle.mount_rules.specs.Mount.{File, IsMount, Node, NodeTable, MountModel}
+use Rattle.mount_rules.specs.Laws.{Keeps}
+use Rattle.mount_rules.specs.View.{Sight, kept_at, sight_at, sight_of}
 use Rattle.spare_maps.proofs.FinMaps.{get-insert_number, get-remove_number, get-insert_name, get-remove_name, number_put_other, number_taken_other}
 
 -- what a change of the table leaves to calls whose claims don't conflict with these

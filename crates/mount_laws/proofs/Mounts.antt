@@ -11,8 +11,8 @@ use Rattle.handle_table.specs.Handles.{Opened}
 use Rattle.inode_spec.specs.Inodes.{Names, first_table, forgotten_at, granted, is_live, left_without, root, with_inode, without_current}
 use Rattle.object_names.specs.Components.{IsComponent}
 use Rattle.object_names.specs.Paths.{IsPrefix, prefix_of}
-use Rattle.mount_spec.specs.Laws.{GivesLater}
-use Rattle.mount_spec.specs.Mount.{File, IsCurrent, IsMount, IsNameOf, MountModel, Node, NodeTable, OpenHandles, first_mount}
+use Rattle.mount_rules.specs.Laws.{GivesLater}
+use Rattle.mount_rules.specs.Mount.{File, IsCurrent, IsMount, IsNameOf, MountModel, Node, NodeTable, OpenHandles, first_mount}
 use Rattle.mount_laws.proofs.Keeping.{no_Some, same_Some}
 use Rattle.spare_maps.proofs.FinMaps.{number_put, number_put_same, number_put_other, number_taken, number_taken_other, name_put, name_taken}
 

@@ -4,13 +4,13 @@ use Rattle.bucket_api.specs.declared.answers.Answer.{Answer}
 use Rattle.bucket_api.specs.Operation.{Operation}
 use Rattle.fuse_replies.specs.declared.reply.Reply.TheVariants.{Error}
 use Rattle.inode_spec.specs.Inodes.{lookups_of}
-use Rattle.mount_spec.specs.Errno.{enomem}
-use Rattle.mount_spec.specs.Laws.{GivesLater, IsCovered, Keeps, given}
-use Rattle.mount_spec.specs.Mount.{MountModel}
+use Rattle.mount_rules.specs.Errno.{enomem}
+use Rattle.mount_rules.specs.Laws.{GivesLater, IsCovered, Keeps, given}
+use Rattle.mount_rules.specs.Mount.{MountModel}
 use Rattle.mount_model.specs.Observing.{Observed}
-use Rattle.mount_spec.specs.Plans.{Allows, Step, done}
-use Rattle.mount_spec.specs.Rules.{Rules, Taken}
-use Rattle.mount_spec.specs.View.{View, view_of}
+use Rattle.mount_rules.specs.Plans.{Allows, Step, done}
+use Rattle.mount_rules.specs.Rules.{Rules, Taken}
+use Rattle.mount_rules.specs.View.{View, view_of}
 use Rattle.mount_laws.proofs.Keeping.{Keeps-same}
 use Rattle.mount_laws.proofs.Mounts.{GivesLater-same}
 use Rattle.mount_laws.proofs.Sound.{IsSound, taken_by}

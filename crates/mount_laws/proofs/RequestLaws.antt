@@ -10,14 +10,14 @@ use Rattle.fuse_requests.specs.declared.request.Request.{Request}
 use Rattle.fuse_requests.specs.declared.request.Request.TheVariants.{Lookup, Forget, BatchForget, Interrupt, Init, Statfs, Opendir, Readdir, Releasedir, Fsyncdir, Create, Destroy, Unknown}
 use Rattle.inode_spec.specs.Inodes.{lookups_of}
 use Rattle.mount_model.specs.declared.config.Config.{Config}
-use Rattle.mount_spec.specs.Dispatch.{early, goes_on, is_among, is_idle, is_init, is_silent, mount_after, plan, claims, reply_to, rules_of, served_opcodes, silent_opcodes, taken_at, unread, view_in, wants}
-use Rattle.mount_spec.specs.Errno.{einval, enomem, enosys, eproto}
-use Rattle.mount_spec.specs.Laws.{ClaimsCover, ClaimsProtect, GivesLater, IsCovered, Keeps, LeavesOthers, NeverOutOfMemory, StaysMount, given, given_back}
-use Rattle.mount_spec.specs.Mount.{IsMount, MountModel}
+use Rattle.mount_rules.specs.Dispatch.{early, goes_on, is_among, is_idle, is_init, is_silent, mount_after, plan, claims, reply_to, rules_of, served_opcodes, silent_opcodes, taken_at, unread, view_in, wants}
+use Rattle.mount_rules.specs.Errno.{einval, enomem, enosys, eproto}
+use Rattle.mount_rules.specs.Laws.{ClaimsCover, ClaimsProtect, GivesLater, IsCovered, Keeps, LeavesOthers, NeverOutOfMemory, StaysMount, given, given_back}
+use Rattle.mount_rules.specs.Mount.{IsMount, MountModel}
 use Rattle.mount_model.specs.Observing.{Observed}
-use Rattle.mount_spec.specs.Plans.{Allows, Plan, Source, Step, answers_of, done}
-use Rattle.mount_spec.specs.Rules.{Rules, Taken}
-use Rattle.mount_spec.specs.View.{view_of}
+use Rattle.mount_rules.specs.Plans.{Allows, Plan, Source, Step, answers_of, done}
+use Rattle.mount_rules.specs.Rules.{Rules, Taken}
+use Rattle.mount_rules.specs.View.{view_of}
 use Rattle.mount_laws.proofs.Guarding.{errors_differ}
 use Rattle.mount_laws.proofs.Keeping.{Keeps-same, no_Some}
 use Rattle.mount_laws.proofs.Mounts.{GivesLater-same}

@@ -9,9 +9,9 @@ use Rattle.claim_spec.specs.Conflicts.{IsClaimed}
 use Rattle.claim_spec.specs.declared.claim.Claim.{Claim}
 use Rattle.claim_spec.specs.declared.claim.ClaimKey.TheVariants as key
 use Rattle.inode_spec.specs.Inodes.{is_live, looked_up, lookups_of, with_inode}
-use Rattle.mount_spec.specs.Mount.{File, IsNameOf, Kept, Node, NodeTable}
-use Rattle.mount_spec.specs.Showing.{Numbered, current_shown, directory_again, new_directory, new_node, object_again, refreshed, shown_again, shown_or_new, stands_for, with_shown_or_new}
-use Rattle.mount_spec.specs.View.{Sight, sight_of}
+use Rattle.mount_rules.specs.Mount.{File, IsNameOf, Kept, Node, NodeTable}
+use Rattle.mount_rules.specs.Showing.{Numbered, current_shown, directory_again, new_directory, new_node, object_again, refreshed, shown_again, shown_or_new, stands_for, with_shown_or_new}
+use Rattle.mount_rules.specs.View.{Sight, sight_of}
 use Rattle.mount_laws.proofs.Counting.{count_of, counts_more}
 use Rattle.mount_laws.proofs.Keeping.{TableKeeps, TableKeeps-granted, TableKeeps-written, no_Some, same_Some}
 use Rattle.mount_laws.proofs.Mounts.{IsNodeTable, TableLater, TableLater-granted, TableLater-written}

@@ -6,10 +6,10 @@ use Rattle.claim_spec.specs.Conflicts.{AreApart, IsClaimed, IsOwned}
 use Rattle.claim_spec.specs.declared.claim.Claim.{Claim}
 use Rattle.claim_spec.specs.declared.claim.ClaimKey.TheVariants as key
 use Rattle.handle_table.specs.Handles.{Opened}
-use Rattle.mount_spec.specs.Laws.{Keeps}
-use Rattle.mount_spec.specs.Mount.{MountModel, NodeTable}
-use Rattle.mount_spec.specs.Rules.{at_node}
-use Rattle.mount_spec.specs.View.{Looks, Named, Sight, View, child_of, current_at, kept_at, old_at, sight_at, view_of}
+use Rattle.mount_rules.specs.Laws.{Keeps}
+use Rattle.mount_rules.specs.Mount.{MountModel, NodeTable}
+use Rattle.mount_rules.specs.Rules.{at_node}
+use Rattle.mount_rules.specs.View.{Looks, Named, Sight, View, child_of, current_at, kept_at, old_at, sight_at, view_of}
 use Rattle.mount_laws.proofs.Keeping.{no_Some, same_Some}
 
 -- What a request looks at is there, and it claims what it looks at: the node and the second directory; the node of its

@@ -1,15 +1,12 @@
--- The definition of the mount: what it holds, and what each request asks, answers and leaves.
+-- The definition of the mount on one thread: what it holds, and what each request asks, answers and leaves.
 pub mod Attributes
-pub mod Claiming
-pub mod Dispatch
+pub mod Counts
 pub mod Errno
-pub mod Guards
-pub mod Laws
-pub mod Making
-pub mod Mount
+pub mod MountModel
+pub mod Observations
 pub mod OneThread
-pub mod Plans
-pub mod Requests
+pub mod PlainNames
+pub mod Request
 pub mod Rules
 pub mod Showing
-pub mod View
+pub mod Store

@@ -1,11 +1,6 @@
 -- The mount on one thread: requests performed one after the other, each at once, on a mount and a bucket.
-use Rattle.std.specs.Prelude.{◌≡◌, ◌≢◌, ℕ, ◌+◌, List, [], ◌∷◌, ◌++◌, All, length, map, Option, Some, None}
-use Rattle.bucket_api.specs.BucketState.{BucketState, object_of}
-use Rattle.bucket_api.specs.BucketStep.{answer_to}
-use Rattle.bucket_api.specs.Log.{state_at}
-use Rattle.bucket_api.specs.LogEvent.{LogEvent}
-use Rattle.bucket_api.specs.declared.events.Mode.TheVariants as modes
-use Rattle.bucket_api.specs.Operation.{Operation}
+use Rattle.std.specs.Prelude.{◌≡◌, ◌≢◌, ℕ, List, [], ◌∷◌, ◌++◌, map}
+use Rattle.bucket_api.specs.BucketState.{BucketState}
 use Rattle.fuse_head.specs.Head.{in_head}
 use Rattle.fuse_replies.specs.declared.reply.Reply.{Reply}
 use Rattle.fuse_replies.specs.declared.reply.Reply.TheVariants.{Error}
@@ -13,107 +8,51 @@ use Rattle.fuse_replies.specs.Replies.{frame_of}
 use Rattle.fuse_requests.specs.declared.request.Request.{Request}
 use Rattle.fuse_requests.specs.Grammar.{request_of}
 use Rattle.mount_model.specs.declared.config.Config.{Config}
-use Rattle.mount_spec.specs.Dispatch.{mount_after, plan, reply_to, wants}
-use Rattle.mount_spec.specs.Errno.{enomem, estale}
-use Rattle.mount_spec.specs.Mount.{MountModel, first_mount, second_at}
-use Rattle.mount_model.specs.Observing.{Observed}
-use Rattle.mount_spec.specs.Plans.{Plan, Source, Step, done, asked_by, Completes, IsHarmless, Walks}
+use Rattle.mount_spec.specs.Errno.{enomem}
+use Rattle.mount_spec.specs.MountModel.{MountModel, first_mount}
+use Rattle.mount_spec.specs.Rules.{plan, reply_to, mount_after}
+use Rattle.mount_spec.specs.Observations.{Observation, done, after_operations, Completes, Begins}
+use Rattle.mount_spec.specs.Store.{Store}
 
--- A bucket as it was at first, and the log of what was made of it. No read stands in the log: what a file's source holds
--- is known from the log (`content_of`). All is made under one lane, and nothing fails.
-pub record Store : Type 0 where
-  pub start : BucketState
-  pub log : List LogEvent
-
--- the bucket as it stands
-abbrev pub bucket_of : Store → BucketState
-bucket_of store = state_at store.start store.log (length store.log)
-
--- one more operation was made
-abbrev pub after_operation : Store → Operation → Store
-after_operation store op = record store { log = store.log ++ record { lane = 1; op = op; mode = modes.Done } ∷ [] }
-
-abbrev pub after_observation : Store → Observed → Store
-after_observation store o = after_operation store o.op
-
--- the operations that were observed were made, in order
-abbrev pub after_operations : Store → List Observed → Store
-after_operations store [] = store
-after_operations store (o ∷ more) = after_operations (after_operation store o.op) more
-
--- The bucket, as it stands, answers what the step asks, reads left out, and the moment is the next place in the log.
-pub record Answers (store : Store) (step : Step) (o : Observed) : Type 0 where
-  pub asked : asked_by step ≡ Some o.op
-  pub moment : o.moment ≡ length store.log + 1
-  pub answer : o.answer ≡ answer_to o.op (bucket_of store)
-
--- the bucket supplies what the plan asks
-abbrev pub Observes : Plan → Store → List Observed → Type 0
-Observes = Walks Answers after_observation
-
--- The mount and the bucket between two requests.
+-- A mount over its bucket.
 pub record RunState : Type 0 where
   pub mount : MountModel
   pub store : Store
 
--- before the first request, over this bucket
+-- a mount before its first request, over this bucket
 abbrev pub first_state : BucketState → RunState
-first_state bucket = record { mount = first_mount; store = record { start = bucket; log = [] } }
+first_state bucket = record { mount = first_mount; store = record { bucket = bucket; made = 0 } }
 
--- How a call ends: performed to its end; short, for want of memory; or stale, since the bucket has the generation that it
--- wants a byte of no more.
+-- How a call ended: it was performed to its end, or memory was refused to it on the way.
 pub data Ending : Type 0 where
   performed : Ending
   short : Ending
-  stale : Ending
 
--- A request, by the number that the kernel gave it; what it observed of the bucket; and how it ended.
+-- A request with the number that its reply repeats, what it observed of the bucket, and how it ended.
 pub record Call : Type 0 where
   pub unique : ℕ
   pub request : Request
-  pub seen : List Observed
+  pub seen : List Observation
   pub ending : Ending
 
--- the clock of one thread stands still
-abbrev pub second_of : Config → ℕ
-second_of config = second_at config 0
+-- The call is one that the mount may make in this state. Memory is never refused to a request that asks
+-- nothing of the bucket.
+abbrev pub IsLawfulBy : Config → RunState → Call → Ending → Type 0
+IsLawfulBy config state call performed = Completes (plan config state.mount call.request) state.store call.seen
+IsLawfulBy config state call short = Begins (plan config state.mount call.request) state.store call.seen × (plan config state.mount call.request [] ≢ done)
 
--- what a request asks at this state
-abbrev pub plan_at : Config → RunState → Request → Plan
-plan_at config state request = plan config (second_of config) state.mount request
+abbrev pub IsLawful : Config → RunState → Call → Type 0
+IsLawful config state call = IsLawfulBy config state call call.ending
 
--- A call that stops short made nothing but look-ups, copies and lists before, and would have asked something.
-pub record StopsShort (config : Config) (state : RunState) (request : Request) (seen : List Observed) : Type 0 where
-  pub asks : plan_at config state request [] ≢ done
-  pub harmless : All (λ (o : Observed). IsHarmless o.op) seen
-
--- A stale call wants a byte of a source that is live no more.
-pub record IsStale (state : RunState) (request : Request) (seen : List Observed) : Type 0 where
-  pub source : Source
-  pub wanted : wants state.mount request ≡ Some source
-  pub gone : object_of (bucket_of state.store) source.name source.generation ≡ None
-  pub silent : seen ≡ []
-
-abbrev pub Ends : Config → RunState → Request → List Observed → Ending → Type 0
-Ends config state request seen performed = Completes (plan_at config state request) seen
-Ends config state request seen short = StopsShort config state request seen
-Ends config state request seen stale = IsStale state request seen
-
--- The call could be made so at this state.
-pub record IsLawful (config : Config) (state : RunState) (call : Call) : Type 0 where
-  pub observed : Observes (plan_at config state call.request) state.store call.seen
-  pub ends : Ends config state call.request call.seen call.ending
-
--- what a call is answered, by how it ended
+-- what the call is answered
 abbrev pub reply_by : Config → RunState → Call → Ending → Reply
-reply_by config state call performed = reply_to config (second_of config) state.mount call.request call.seen
+reply_by config state call performed = reply_to config state.mount call.request call.seen
 reply_by config state call short = Error enomem
-reply_by config state call stale = Error estale
 
+-- the mount after the call: one that stopped short leaves it as it was
 abbrev pub mount_by : Config → RunState → Call → Ending → MountModel
-mount_by config state call performed = mount_after config (second_of config) state.mount call.request call.seen
+mount_by config state call performed = mount_after config state.mount call.request call.seen
 mount_by config state call short = state.mount
-mount_by config state call stale = state.mount
 
 abbrev pub reply_in : Config → RunState → Call → Reply
 reply_in config state call = reply_by config state call call.ending
@@ -122,9 +61,9 @@ reply_in config state call = reply_by config state call call.ending
 abbrev pub state_after_call : Config → RunState → Call → RunState
 state_after_call config state call = record { mount = mount_by config state call call.ending; store = after_operations state.store call.seen }
 
--- One more request is performed, or ends otherwise: what it is answered, and the state that it leaves.
+-- One more request is performed, or stops short: what it is answered, and the state that it leaves.
 pub record Performs (config : Config) (state : RunState) (request : Request) (answer : Reply) (after : RunState) : Type 0 where
-  pub seen : List Observed
+  pub seen : List Observation
   pub ending : Ending
   pub lawful : IsLawful config state (record { unique = 0; request = request; seen = seen; ending = ending })
   pub answered : answer ≡ reply_in config state (record { unique = 0; request = request; seen = seen; ending = ending })
@@ -147,8 +86,8 @@ text_of config state (call ∷ calls) =
     frame_of call.unique (reply_in config state call) ++ text_of config (state_after_call config state call) calls
 
 -- the number and the request of a call
-abbrev pub asked_of : Call → ℕ × Request
-asked_of call = (call.unique, call.request)
+abbrev pub asked_by : Call → ℕ × Request
+asked_by call = (call.unique, call.request)
 
 -- the number and the request of a frame
 abbrev pub asked_in : List ℕ → ℕ × Request
@@ -158,7 +97,7 @@ asked_in frame = ((in_head frame).unique, request_of frame)
 -- its calls are those of the frames, in order, and those answered for want of memory are the short ones.
 pub record Serves (config : Config) (from : RunState) (frames : List (List ℕ)) (put : List ℕ) (to : RunState) : Type 0 where
   pub calls : List Call
-  pub asked : map asked_of calls ≡ map asked_in frames
+  pub asked : map asked_by calls ≡ map asked_in frames
   pub lawful : IsRun config from calls
   pub reached : state_after_calls config from calls ≡ to
   pub told : put ≡ text_of config from calls

@@ -1,3 +1,9 @@
-//! The definition of the mount, which every layer of the mount cites: what it holds, and the rules of each request. It
-//! has definitions alone; what is proved of them stands in `mount_laws`.
+//! The definition of the mount on one thread, which every layer of the mount cites, the types that it shares with them,
+//! and laws over it.
 #![tactic(auto)]
+
+mod node;
+mod outcomes;
+
+pub use node::Node;
+pub use outcomes::{Found, Made, Probed};

@@ -7,10 +7,10 @@ use Rattle.bucket_api.specs.Names.{IsObjectName}
 use Rattle.bucket_api.specs.Operation.{IsAllowed}
 use Rattle.mount_model.specs.Observing.{NextStep, finish, insert_staged, make}
 use Rattle.object_names.specs.Paths.{IsPath}
-use Rattle.mount_spec.specs.Making as making
-use Rattle.mount_spec.specs.Plans.{Plan, Step, done, ask, may_read, plan_after}
-use Rattle.mount_spec.specs.Requests.Lookup as lookup
-use Rattle.mount_spec.specs.Requests.Opendir as opendir
+use Rattle.mount_rules.specs.Making as making
+use Rattle.mount_rules.specs.Plans.{Plan, Step, done, ask, may_read, plan_after}
+use Rattle.mount_rules.specs.Requests.Lookup as lookup
+use Rattle.mount_rules.specs.Requests.Opendir as opendir
 use Rattle.plan_names.specs.declared.errand.NameErrand.{NameErrand}
 use Rattle.plan_names.specs.declared.errand.NameErrand.TheVariants.{Lookup, Make, Opendir}
 

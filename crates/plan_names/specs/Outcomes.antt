@@ -1,6 +1,6 @@
 -- What came of a look-up and of making an object, as the code says it.
-use Rattle.mount_spec.specs.Making as making
-use Rattle.mount_spec.specs.Requests.Lookup as lookup
+use Rattle.mount_rules.specs.Making as making
+use Rattle.mount_rules.specs.Requests.Lookup as lookup
 use Rattle.plan_names.specs.declared.found.Found.{Found}
 use Rattle.plan_names.specs.declared.found.Found.TheVariants as found
 use Rattle.plan_names.specs.declared.found.Made.{Made}

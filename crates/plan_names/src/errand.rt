@@ -1,6 +1,6 @@
 ghost use Rattle.std.specs.Prelude.{◌≡◌, ◌≢◌, IfOk, OnErr};
 ghost use Rattle.mount_model.specs.Observing.{next_step};
-ghost use Rattle.mount_spec.specs.Plans.{done};
+ghost use Rattle.mount_rules.specs.Plans.{done};
 ghost use Rattle.plan_names.specs.Errands.{plan_of, errno_of, next_of, IsErrand, Asked, MayMake};
 
 use crate::listing;

@@ -1,7 +1,7 @@
 ghost use Rattle.std.specs.Prelude.{◌≡◌};
-ghost use Rattle.mount_spec.specs.Making as making;
-ghost use Rattle.mount_spec.specs.Plans.{answers_of};
-ghost use Rattle.mount_spec.specs.Requests.Lookup as lookup;
+ghost use Rattle.mount_rules.specs.Making as making;
+ghost use Rattle.mount_rules.specs.Plans.{answers_of};
+ghost use Rattle.mount_rules.specs.Requests.Lookup as lookup;
 ghost use Rattle.plan_names.specs.Outcomes.{as_found, as_made};
 ghost use Rattle.plan_names.specs.Telling.{told};
 

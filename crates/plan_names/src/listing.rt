@@ -1,8 +1,8 @@
 ghost use Rattle.std.specs.Prelude.{◌≡◌, ◌≢◌, ◌≤◌, [], None, true, false, IfOk, IfSome, OnErr};
 ghost use Rattle.bucket_api.specs.Operation.{list as list_of};
 ghost use Rattle.mount_model.specs.Observing.{make, next_step};
-ghost use Rattle.mount_spec.specs.Plans.{done};
-ghost use Rattle.mount_spec.specs.Requests.Opendir as spec;
+ghost use Rattle.mount_rules.specs.Plans.{done};
+ghost use Rattle.mount_rules.specs.Requests.Opendir as spec;
 ghost use Rattle.plan_names.specs.Errands.{next_of, Asked, MayMake};
 
 use bucket_api::{Answer, Op};

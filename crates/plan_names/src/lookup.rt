@@ -1,8 +1,8 @@
 ghost use Rattle.std.specs.Prelude.{◌≡◌, ◌≢◌, false, [], IfOk, OnErr};
 ghost use Rattle.bucket_api.specs.Operation.{stat as stat_of};
 ghost use Rattle.mount_model.specs.Observing.{next_step};
-ghost use Rattle.mount_spec.specs.Plans.{ask, done};
-ghost use Rattle.mount_spec.specs.Requests.Lookup as spec;
+ghost use Rattle.mount_rules.specs.Plans.{ask, done};
+ghost use Rattle.mount_rules.specs.Requests.Lookup as spec;
 ghost use Rattle.object_names.specs.Paths.{IsPath};
 ghost use Rattle.plan_names.specs.Errands.{next_of, MayMake};
 ghost use Rattle.plan_names.specs.Telling.{told};

@@ -2,8 +2,8 @@ ghost use Rattle.std.specs.Prelude.{◌≡◌, ◌≢◌, ◌×◌, IfOk, OnErr}
 ghost use Rattle.bucket_api.specs.Metadata.{KeysRise};
 ghost use Rattle.bucket_api.specs.Names.{IsObjectName};
 ghost use Rattle.mount_model.specs.Observing.{next_step};
-ghost use Rattle.mount_spec.specs.Making as spec;
-ghost use Rattle.mount_spec.specs.Plans.{done};
+ghost use Rattle.mount_rules.specs.Making as spec;
+ghost use Rattle.mount_rules.specs.Plans.{done};
 ghost use Rattle.plan_names.specs.Errands.{next_of, MayMake};
 
 use bucket_api::{Answer, Op, Pair, copy_pairs};

@@ -12,16 +12,16 @@ use Rattle.handle_table.specs.Handles.{Opened}
 use Rattle.inode_spec.specs.Inodes.{granted, lookups_of}
 use Rattle.mount_model.specs.declared.config.Config.{Config}
 use Rattle.object_names.specs.Paths.{IsPath}
-use Rattle.mount_spec.specs.Claiming.{owns_name, shares_node}
-use Rattle.mount_spec.specs.Errno.{eexist, eio, enomem}
-use Rattle.mount_spec.specs.Guards.{part_refusal}
-use Rattle.mount_spec.specs.Laws.{GivesLater, IsCovered, Keeps, given}
-use Rattle.mount_spec.specs.Mount.{IsMount, MountModel, Node}
-use Rattle.mount_spec.specs.Plans.{Allows, answers_of}
-use Rattle.mount_spec.specs.Requests.Create as create
-use Rattle.mount_spec.specs.Making as making
-use Rattle.mount_spec.specs.Making.{Made, new, exists, fault}
-use Rattle.mount_spec.specs.Showing.{new_node}
+use Rattle.mount_rules.specs.Claiming.{owns_name, shares_node}
+use Rattle.mount_rules.specs.Errno.{eexist, eio, enomem}
+use Rattle.mount_rules.specs.Guards.{part_refusal}
+use Rattle.mount_rules.specs.Laws.{GivesLater, IsCovered, Keeps, given}
+use Rattle.mount_rules.specs.Mount.{IsMount, MountModel, Node}
+use Rattle.mount_rules.specs.Plans.{Allows, answers_of}
+use Rattle.mount_rules.specs.Requests.Create as create
+use Rattle.mount_rules.specs.Making as making
+use Rattle.mount_rules.specs.Making.{Made, new, exists, fault}
+use Rattle.mount_rules.specs.Showing.{new_node}
 use Rattle.mount_laws.proofs.Children.{HasPath-none, IsNameOf-object}
 use Rattle.mount_laws.proofs.Counting.{count_of, counts_more}
 use Rattle.mount_laws.proofs.Guarding.{in_directory-memory, part_refusal-memory}

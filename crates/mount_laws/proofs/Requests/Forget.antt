@@ -10,12 +10,12 @@ use Rattle.claim_spec.specs.declared.claim.Claim.{Claim}
 use Rattle.claim_spec.specs.declared.claim.ClaimKey.TheVariants as key
 use Rattle.fuse_replies.specs.declared.reply.Reply.TheVariants.{Error, Silent}
 use Rattle.inode_spec.specs.Inodes.{forgotten, forgotten_at, is_live}
-use Rattle.mount_spec.specs.Claiming.{owns_node}
-use Rattle.mount_spec.specs.Errno.{enomem}
-use Rattle.mount_spec.specs.Laws.{GivesLater, Keeps}
-use Rattle.mount_spec.specs.Mount.{IsMount, MountModel, Node}
-use Rattle.mount_spec.specs.Requests.Forget as forget
-use Rattle.mount_spec.specs.View.{Sight, sight_at, sight_of}
+use Rattle.mount_rules.specs.Claiming.{owns_node}
+use Rattle.mount_rules.specs.Errno.{enomem}
+use Rattle.mount_rules.specs.Laws.{GivesLater, Keeps}
+use Rattle.mount_rules.specs.Mount.{IsMount, MountModel, Node}
+use Rattle.mount_rules.specs.Requests.Forget as forget
+use Rattle.mount_rules.specs.View.{Sight, sight_at, sight_of}
 use Rattle.mount_laws.proofs.Counting.{counts_forgotten}
 use Rattle.mount_laws.proofs.Keeping.{TableKeeps, TableKeeps-forgotten, TableKeeps-same, Keeps-table, same_Some}
 use Rattle.mount_laws.proofs.Mounts.{GivesLater-table, IsNodeTable-of, TableLater, TableLater-forgotten, TableLater-same}

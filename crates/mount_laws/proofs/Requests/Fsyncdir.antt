@@ -1,8 +1,8 @@
 -- FSYNCDIR.
 use Rattle.std.proofs.Common.{◌≡◌, ℕ, Some, None, refl}
 use Rattle.fuse_replies.specs.declared.reply.Reply.TheVariants.{Error, Empty}
-use Rattle.mount_spec.specs.Errno.{enomem}
-use Rattle.mount_spec.specs.Requests.Fsyncdir as fsyncdir
+use Rattle.mount_rules.specs.Errno.{enomem}
+use Rattle.mount_rules.specs.Requests.Fsyncdir as fsyncdir
 use Rattle.mount_laws.proofs.Guarding.{on_open_directory-memory}
 use Rattle.mount_laws.proofs.Quiet.{IsQuiet, IsSound-quiet}
 use Rattle.mount_laws.proofs.Sound.{IsSound}

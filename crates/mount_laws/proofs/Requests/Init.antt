@@ -5,10 +5,10 @@ use Rattle.std.specs.Prelude.{if◌then◌else◌, bit_and}
 use Rattle.fuse_replies.specs.declared.reply.Reply.{Reply}
 use Rattle.fuse_replies.specs.declared.reply.Reply.TheVariants.{Error, InitDone}
 use Rattle.inode_spec.specs.Inodes.{lookups_of}
-use Rattle.mount_spec.specs.Errno.{enomem, eproto}
-use Rattle.mount_spec.specs.Laws.{GivesLater, Keeps, given}
-use Rattle.mount_spec.specs.Mount.{IsMount, MountModel}
-use Rattle.mount_spec.specs.Requests.Init as init
+use Rattle.mount_rules.specs.Errno.{enomem, eproto}
+use Rattle.mount_rules.specs.Laws.{GivesLater, Keeps, given}
+use Rattle.mount_rules.specs.Mount.{IsMount, MountModel}
+use Rattle.mount_rules.specs.Requests.Init as init
 use Rattle.mount_laws.proofs.Keeping.{Keeps-same}
 use Rattle.mount_laws.proofs.Mounts.{GivesLater-negotiated, GivesLater-same}
 use Rattle.mount_laws.proofs.Sound.{IsSound}

@@ -12,16 +12,16 @@ use Rattle.inode_spec.specs.Inodes.{lookups_of}
 use Rattle.mount_model.specs.declared.config.Config.{Config}
 use Rattle.object_names.specs.Paths.{IsPath, bare_name, dir_prefix_of, has_suffix}
 use Rattle.object_names.specs.declared.component.NameFault.{NameFault}
-use Rattle.mount_spec.specs.Errno.{eio, enoent, enomem}
-use Rattle.mount_spec.specs.Guards.{part_refusal}
-use Rattle.mount_spec.specs.Laws.{IsCovered, given}
-use Rattle.mount_spec.specs.Mount.{MountModel, NodeTable}
-use Rattle.mount_spec.specs.Plans.{Allows, Step, answers_of, ask, done}
-use Rattle.mount_spec.specs.Requests.Lookup as lookup
-use Rattle.mount_spec.specs.Requests.Lookup.{Found, directory, object, nothing, fault, Probed, present, absent, failed}
-use Rattle.mount_spec.specs.Rules.{Taken}
-use Rattle.mount_spec.specs.Showing.{directory_again, new_directory, new_node, object_again}
-use Rattle.mount_spec.specs.View.{View}
+use Rattle.mount_rules.specs.Errno.{eio, enoent, enomem}
+use Rattle.mount_rules.specs.Guards.{part_refusal}
+use Rattle.mount_rules.specs.Laws.{IsCovered, given}
+use Rattle.mount_rules.specs.Mount.{MountModel, NodeTable}
+use Rattle.mount_rules.specs.Plans.{Allows, Step, answers_of, ask, done}
+use Rattle.mount_rules.specs.Requests.Lookup as lookup
+use Rattle.mount_rules.specs.Requests.Lookup.{Found, directory, object, nothing, fault, Probed, present, absent, failed}
+use Rattle.mount_rules.specs.Rules.{Taken}
+use Rattle.mount_rules.specs.Showing.{directory_again, new_directory, new_node, object_again}
+use Rattle.mount_rules.specs.View.{View}
 use Rattle.mount_laws.proofs.Children.{HasPath, HasPath-none, IsNameOf-object, IsPrefix-path}
 use Rattle.mount_laws.proofs.Guarding.{in_directory-memory, part_refusal-memory}
 use Rattle.mount_laws.proofs.Keeping.{Keeps-table, TableKeeps, TableKeeps-same}

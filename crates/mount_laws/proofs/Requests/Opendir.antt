@@ -9,14 +9,14 @@ use Rattle.claim_spec.specs.declared.claim.Claim.{Claim}
 use Rattle.fuse_replies.specs.declared.reply.Reply.TheVariants.{Error}
 use Rattle.inode_spec.specs.Inodes.{lookups_of}
 use Rattle.object_names.specs.declared.shown.DirItem.{DirItem}
-use Rattle.mount_spec.specs.Claiming.{shares_node}
-use Rattle.mount_spec.specs.Errno.{eio, enomem}
-use Rattle.mount_spec.specs.Guards.{in_directory}
-use Rattle.mount_spec.specs.Laws.{GivesLater, IsCovered, Keeps, given}
-use Rattle.mount_spec.specs.Mount.{IsMount, MountModel}
-use Rattle.mount_spec.specs.Plans.{Allows, answers_of, done}
-use Rattle.mount_spec.specs.Requests.Opendir as opendir
-use Rattle.mount_spec.specs.View.{Sight}
+use Rattle.mount_rules.specs.Claiming.{shares_node}
+use Rattle.mount_rules.specs.Errno.{eio, enomem}
+use Rattle.mount_rules.specs.Guards.{in_directory}
+use Rattle.mount_rules.specs.Laws.{GivesLater, IsCovered, Keeps, given}
+use Rattle.mount_rules.specs.Mount.{IsMount, MountModel}
+use Rattle.mount_rules.specs.Plans.{Allows, answers_of, done}
+use Rattle.mount_rules.specs.Requests.Opendir as opendir
+use Rattle.mount_rules.specs.View.{Sight}
 use Rattle.mount_laws.proofs.Guarding.{in_directory-memory, in_directory-none}
 use Rattle.mount_laws.proofs.Keeping.{Keeps-opened, Keeps-same, TableKeeps-same}
 use Rattle.mount_laws.proofs.Mounts.{GivesLater-opened, GivesLater-same}

@@ -7,17 +7,17 @@ use Rattle.fuse_replies.specs.declared.reply.Reply.{Reply}
 use Rattle.fuse_replies.specs.declared.reply.Reply.TheVariants.{Error, Created}
 use Rattle.inode_spec.specs.Inodes.{granted}
 use Rattle.mount_model.specs.declared.config.Config.{Config}
-use Rattle.mount_spec.specs.Attributes.{entry_of}
-use Rattle.mount_spec.specs.Claiming.{shares_node, owns_name}
-use Rattle.mount_spec.specs.Errno.{eexist, eio}
-use Rattle.mount_spec.specs.Guards.{in_directory, part_refusal, path_in}
-use Rattle.mount_spec.specs.Making as making
-use Rattle.mount_spec.specs.Making.{Made, new, exists, fault}
-use Rattle.mount_spec.specs.Mount.{MountModel, Node}
-use Rattle.mount_spec.specs.Plans.{answers_of, last_moment}
-use Rattle.mount_spec.specs.Rules.{Rules, at_node}
-use Rattle.mount_spec.specs.Showing.{new_node}
-use Rattle.mount_spec.specs.View.{View}
+use Rattle.mount_rules.specs.Attributes.{entry_of}
+use Rattle.mount_rules.specs.Claiming.{shares_node, owns_name}
+use Rattle.mount_rules.specs.Errno.{eexist, eio}
+use Rattle.mount_rules.specs.Guards.{in_directory, part_refusal, path_in}
+use Rattle.mount_rules.specs.Making as making
+use Rattle.mount_rules.specs.Making.{Made, new, exists, fault}
+use Rattle.mount_rules.specs.Mount.{MountModel, Node}
+use Rattle.mount_rules.specs.Plans.{answers_of, last_moment}
+use Rattle.mount_rules.specs.Rules.{Rules, at_node}
+use Rattle.mount_rules.specs.Showing.{new_node}
+use Rattle.mount_rules.specs.View.{View}
 
 abbrev pub refusal : List ℕ → View → Option ℕ
 refusal name view = in_directory view.node (part_refusal name)

@@ -10,12 +10,12 @@ use Rattle.object_names.specs.declared.shown.DirItem.{DirItem}
 use Rattle.object_names.specs.declared.shown.NodeKind.{NodeKind}
 use Rattle.object_names.specs.declared.shown.NodeKind.TheVariants.{Dir, File, Symlink}
 use Rattle.handle_table.specs.Handles.{Opened as OpenHandle}
-use Rattle.mount_spec.specs.Claiming.{shares_node}
-use Rattle.mount_spec.specs.Errno.{einval}
-use Rattle.mount_spec.specs.Guards.{entries_opened, on_open_directory}
-use Rattle.mount_spec.specs.Plans.{done}
-use Rattle.mount_spec.specs.Rules.{Rules, at_handle}
-use Rattle.mount_spec.specs.View.{View}
+use Rattle.mount_rules.specs.Claiming.{shares_node}
+use Rattle.mount_rules.specs.Errno.{einval}
+use Rattle.mount_rules.specs.Guards.{entries_opened, on_open_directory}
+use Rattle.mount_rules.specs.Plans.{done}
+use Rattle.mount_rules.specs.Rules.{Rules, at_handle}
+use Rattle.mount_rules.specs.View.{View}
 
 -- the most bytes that a READ or READDIR may ask for
 abbrev pub longest_read : ℕ

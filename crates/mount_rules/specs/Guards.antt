@@ -9,8 +9,8 @@ use Rattle.object_names.specs.declared.component.NameFault.TheVariants.{TooLong}
 use Rattle.object_names.specs.declared.shown.DirItem.{DirItem}
 use Rattle.object_names.specs.declared.shown.NodeKind.{NodeKind}
 use Rattle.object_names.specs.declared.shown.NodeKind.TheVariants.{Dir}
-use Rattle.mount_spec.specs.Errno.{ebadf, einval, enametoolong, enotdir, estale}
-use Rattle.mount_spec.specs.View.{Sight, child_of}
+use Rattle.mount_rules.specs.Errno.{ebadf, einval, enametoolong, enotdir, estale}
+use Rattle.mount_rules.specs.View.{Sight, child_of}
 
 -- a node that is live; another is stale
 abbrev pub on_live : Option Sight → (Sight → Option ℕ) → Option ℕ

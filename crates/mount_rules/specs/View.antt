@@ -6,7 +6,7 @@ use Rattle.std.specs.Option.{option_map_or}
 use Rattle.bucket_api.specs.Metadata.{Metadata}
 use Rattle.handle_table.specs.Handles.{Opened}
 use Rattle.inode_spec.specs.Inodes.{is_live}
-use Rattle.mount_spec.specs.Mount.{File, Node, NodeTable, MountModel}
+use Rattle.mount_rules.specs.Mount.{File, Node, NodeTable, MountModel}
 use Rattle.object_names.specs.declared.shown.NodeKind.{NodeKind}
 
 -- What is seen of a node that is there. A directory has the source and the size 0.

@@ -1,8 +1,8 @@
 -- STATFS: the numbers of a file system whose room is the bucket's (fuse.h: `struct fuse_kstatfs`).
 use Rattle.std.specs.Prelude.{None, []}
 use Rattle.fuse_replies.specs.declared.reply.Reply.TheVariants.{Stat}
-use Rattle.mount_spec.specs.Plans.{done}
-use Rattle.mount_spec.specs.Rules.{Rules, nowhere}
+use Rattle.mount_rules.specs.Plans.{done}
+use Rattle.mount_rules.specs.Rules.{Rules, nowhere}
 
 abbrev pub rules : Rules
 rules = record {

@@ -1,8 +1,8 @@
 -- DESTROY: the kernel goes. It is answered, and changes nothing.
 use Rattle.std.specs.Prelude.{None, []}
 use Rattle.fuse_replies.specs.declared.reply.Reply.TheVariants.{Empty}
-use Rattle.mount_spec.specs.Plans.{done}
-use Rattle.mount_spec.specs.Rules.{Rules, nowhere}
+use Rattle.mount_rules.specs.Plans.{done}
+use Rattle.mount_rules.specs.Rules.{Rules, nowhere}
 
 abbrev pub rules : Rules
 rules = record {

@@ -2,12 +2,12 @@
 use Rattle.std.specs.Prelude.{ℕ, [], ◌∷◌, Option, None}
 use Rattle.std.specs.FinMap as fin
 use Rattle.fuse_replies.specs.declared.reply.Reply.TheVariants.{Empty}
-use Rattle.mount_spec.specs.Claiming.{owns_node}
-use Rattle.mount_spec.specs.Guards.{on_open_directory}
-use Rattle.mount_spec.specs.Mount.{MountModel}
-use Rattle.mount_spec.specs.Plans.{done}
-use Rattle.mount_spec.specs.Rules.{Rules, at_handle}
-use Rattle.mount_spec.specs.View.{View}
+use Rattle.mount_rules.specs.Claiming.{owns_node}
+use Rattle.mount_rules.specs.Guards.{on_open_directory}
+use Rattle.mount_rules.specs.Mount.{MountModel}
+use Rattle.mount_rules.specs.Plans.{done}
+use Rattle.mount_rules.specs.Rules.{Rules, at_handle}
+use Rattle.mount_rules.specs.View.{View}
 
 abbrev pub refusal : ℕ → View → Option ℕ
 refusal node view = on_open_directory node view.handle (λ entries. None)

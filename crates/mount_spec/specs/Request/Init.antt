@@ -1,13 +1,14 @@
 -- INIT: the kernel offers a version, and the mount takes 7.31. Source: Linux fuse.h, protocol 7.31, and the
 -- kernel's fuse documentation: a file system that has only an older major answers with its own, and the
 -- kernel then offers that one. Which flags are granted is this project's own choice.
-use Rattle.std.specs.Prelude.{ℕ, Bool, true, false, [], ◌==◌, ◌&&◌, nat_lt, nat_le, bit_and, None, if◌then◌else◌}
+use Rattle.std.specs.Prelude.{ℕ, Bool, true, false, ◌==◌, ◌&&◌, nat_lt, nat_le, bit_and, if◌then◌else◌}
 use Rattle.fuse_replies.specs.declared.reply.Reply.{Reply}
 use Rattle.fuse_replies.specs.declared.reply.Reply.TheVariants.{Error, InitDone}
 use Rattle.mount_spec.specs.Errno.{eproto}
-use Rattle.mount_spec.specs.Mount.{MountModel}
-use Rattle.mount_spec.specs.Plans.{done}
-use Rattle.mount_spec.specs.Rules.{Rules, nowhere}
+use Rattle.mount_spec.specs.MountModel.{MountModel}
+
+abbrev pub opcode : ℕ
+opcode = 26
 
 -- the kernel's major is newer: it is told to offer 7
 abbrev pub is_newer : ℕ → Bool
@@ -28,17 +29,5 @@ reply major minor readahead flags =
     else Error eproto
 
 -- a version that isn't taken leaves an earlier agreement as it is
-abbrev pub after : ℕ → ℕ → MountModel → MountModel
-after major minor mount = if is_taken major minor then record mount { negotiated = true } else mount
-
-abbrev pub rules : ℕ → ℕ → ℕ → ℕ → Rules
-rules major minor readahead flags = record {
-  looks = nowhere;
-  refusal = λ view. None;
-  plan = λ taken answers. done;
-  wants = λ view. None;
-  claims = λ view. [];
-  keys = λ view. [];
-  reply = λ taken mount seen. reply major minor readahead flags;
-  after = λ taken mount seen. after major minor mount;
-}
+abbrev pub after : MountModel → ℕ → ℕ → MountModel
+after mount major minor = if is_taken major minor then record mount { negotiated = true } else mount

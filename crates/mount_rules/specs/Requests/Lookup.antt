@@ -11,15 +11,15 @@ use Rattle.fuse_replies.specs.declared.reply.Reply.{Reply}
 use Rattle.fuse_replies.specs.declared.reply.Reply.TheVariants.{Error, Entry}
 use Rattle.mount_model.specs.declared.config.Config.{Config}
 use Rattle.object_names.specs.Paths.{bare_name, dir_prefix_of, has_suffix}
-use Rattle.mount_spec.specs.Attributes.{entry_of}
-use Rattle.mount_spec.specs.Claiming.{shares_node, shares_name}
-use Rattle.mount_spec.specs.Errno.{eio, enoent}
-use Rattle.mount_spec.specs.Guards.{in_directory, part_refusal, path_in}
-use Rattle.mount_spec.specs.Mount.{MountModel, NodeTable}
-use Rattle.mount_spec.specs.Plans.{Step, answers_of, ask, done, last_moment}
-use Rattle.mount_spec.specs.Rules.{Rules, at_node}
-use Rattle.mount_spec.specs.Showing.{Numbered, shown_by, after_showing, directory_by, after_directory}
-use Rattle.mount_spec.specs.View.{View}
+use Rattle.mount_rules.specs.Attributes.{entry_of}
+use Rattle.mount_rules.specs.Claiming.{shares_node, shares_name}
+use Rattle.mount_rules.specs.Errno.{eio, enoent}
+use Rattle.mount_rules.specs.Guards.{in_directory, part_refusal, path_in}
+use Rattle.mount_rules.specs.Mount.{MountModel, NodeTable}
+use Rattle.mount_rules.specs.Plans.{Step, answers_of, ask, done, last_moment}
+use Rattle.mount_rules.specs.Rules.{Rules, at_node}
+use Rattle.mount_rules.specs.Showing.{Numbered, shown_by, after_showing, directory_by, after_directory}
+use Rattle.mount_rules.specs.View.{View}
 
 abbrev pub refusal : List ℕ → View → Option ℕ
 refusal name view = in_directory view.node (part_refusal (bare_name name))

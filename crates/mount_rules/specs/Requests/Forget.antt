@@ -8,11 +8,11 @@ use Rattle.claim_spec.specs.declared.claim.Claim.{Claim}
 use Rattle.fuse_replies.specs.declared.reply.Reply.TheVariants.{Silent}
 use Rattle.handle_table.specs.Handles.{Opened}
 use Rattle.inode_spec.specs.Inodes.{forgotten}
-use Rattle.mount_spec.specs.Claiming.{owns_node}
-use Rattle.mount_spec.specs.Mount.{MountModel, OpenHandles}
-use Rattle.mount_spec.specs.Plans.{done}
-use Rattle.mount_spec.specs.Rules.{Rules, at_node}
-use Rattle.mount_spec.specs.View.{Sight, View}
+use Rattle.mount_rules.specs.Claiming.{owns_node}
+use Rattle.mount_rules.specs.Mount.{MountModel, OpenHandles}
+use Rattle.mount_rules.specs.Plans.{done}
+use Rattle.mount_rules.specs.Rules.{Rules, at_node}
+use Rattle.mount_rules.specs.View.{Sight, View}
 
 -- an open handle is on the node
 abbrev pub is_held : OpenHandles → ℕ → Bool

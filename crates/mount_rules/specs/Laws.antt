@@ -14,13 +14,13 @@ use Rattle.handle_table.specs.Handles.{Opened}
 use Rattle.inode_spec.specs.Inodes.{lookups_of}
 use Rattle.mount_model.specs.declared.config.Config.{Config}
 use Rattle.mount_model.specs.Configs.{IsConfig}
-use Rattle.mount_spec.specs.Dispatch.{claims, early, goes_on, is_idle, mount_after, plan, reply_to, view_in}
-use Rattle.mount_spec.specs.Errno.{enomem}
-use Rattle.mount_spec.specs.Mount.{IsMount, MountModel}
-use Rattle.mount_spec.specs.OneThread.{Call, IsRun, Ending, RunState, first_state, performed, short, reply_by, reply_in, state_after_call, state_after_calls}
+use Rattle.mount_rules.specs.Dispatch.{claims, early, goes_on, is_idle, mount_after, plan, reply_to, view_in}
+use Rattle.mount_rules.specs.Errno.{enomem}
+use Rattle.mount_rules.specs.Mount.{IsMount, MountModel}
+use Rattle.mount_rules.specs.OneThread.{Call, IsRun, Ending, RunState, first_state, performed, short, reply_by, reply_in, state_after_call, state_after_calls}
 use Rattle.mount_model.specs.Observing.{Observed}
-use Rattle.mount_spec.specs.Plans.{Allows, Completes, Step, answers_of, done}
-use Rattle.mount_spec.specs.View.{Named, Sight, View, current_at, kept_at, sight_at}
+use Rattle.mount_rules.specs.Plans.{Allows, Completes, Step, answers_of, done}
+use Rattle.mount_rules.specs.View.{Named, Sight, View, current_at, kept_at, sight_at}
 
 -- ---- a mount stays one
 abbrev pub StaysMount : Type 0

@@ -14,13 +14,13 @@ use Rattle.fuse_replies.specs.declared.reply.Reply.{Reply}
 use Rattle.fuse_replies.specs.declared.reply.Reply.TheVariants.{Error, Opened}
 use Rattle.object_names.specs.ShownNames.{shown_entries}
 use Rattle.object_names.specs.declared.shown.DirItem.{DirItem}
-use Rattle.mount_spec.specs.Claiming.{shares_node}
-use Rattle.mount_spec.specs.Errno.{eio}
-use Rattle.mount_spec.specs.Guards.{in_directory, path_in}
-use Rattle.mount_spec.specs.Mount.{MountModel}
-use Rattle.mount_spec.specs.Plans.{Step, answers_of, done, ask}
-use Rattle.mount_spec.specs.Rules.{Rules, at_node}
-use Rattle.mount_spec.specs.View.{View}
+use Rattle.mount_rules.specs.Claiming.{shares_node}
+use Rattle.mount_rules.specs.Errno.{eio}
+use Rattle.mount_rules.specs.Guards.{in_directory, path_in}
+use Rattle.mount_rules.specs.Mount.{MountModel}
+use Rattle.mount_rules.specs.Plans.{Step, answers_of, done, ask}
+use Rattle.mount_rules.specs.Rules.{Rules, at_node}
+use Rattle.mount_rules.specs.View.{View}
 
 abbrev pub refusal : View → Option ℕ
 refusal view = in_directory view.node (λ directory. None)

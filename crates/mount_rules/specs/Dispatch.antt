@@ -9,23 +9,23 @@ use Rattle.fuse_replies.specs.declared.reply.Reply.TheVariants.{Error, Silent}
 use Rattle.fuse_requests.specs.declared.request.Request.{Request}
 use Rattle.fuse_requests.specs.declared.request.Request.TheVariants.{Lookup, Forget, BatchForget, Interrupt, Init, Statfs, Opendir, Readdir, Releasedir, Fsyncdir, Create, Destroy, Unknown}
 use Rattle.mount_model.specs.declared.config.Config.{Config}
-use Rattle.mount_spec.specs.Errno.{einval, enosys, eproto}
-use Rattle.mount_spec.specs.Mount.{MountModel}
+use Rattle.mount_rules.specs.Errno.{einval, enosys, eproto}
+use Rattle.mount_rules.specs.Mount.{MountModel}
 use Rattle.mount_model.specs.Observing.{Observed}
-use Rattle.mount_spec.specs.Plans.{Plan, Source, Step, done}
-use Rattle.mount_spec.specs.Requests.Create as create
-use Rattle.mount_spec.specs.Requests.Destroy as destroy
-use Rattle.mount_spec.specs.Requests.Forget as forget
-use Rattle.mount_spec.specs.Requests.Fsyncdir as fsyncdir
-use Rattle.mount_spec.specs.Requests.Init as init
-use Rattle.mount_spec.specs.Requests.Lookup as lookup
-use Rattle.mount_spec.specs.Requests.Opendir as opendir
-use Rattle.mount_spec.specs.Requests.Readdir as readdir
-use Rattle.mount_spec.specs.Requests.Releasedir as releasedir
-use Rattle.mount_spec.specs.Requests.Statfs as statfs
-use Rattle.mount_spec.specs.Requests.Unserved as unserved
-use Rattle.mount_spec.specs.Rules.{Rules, Taken}
-use Rattle.mount_spec.specs.View.{View, view_of}
+use Rattle.mount_rules.specs.Plans.{Plan, Source, Step, done}
+use Rattle.mount_rules.specs.Requests.Create as create
+use Rattle.mount_rules.specs.Requests.Destroy as destroy
+use Rattle.mount_rules.specs.Requests.Forget as forget
+use Rattle.mount_rules.specs.Requests.Fsyncdir as fsyncdir
+use Rattle.mount_rules.specs.Requests.Init as init
+use Rattle.mount_rules.specs.Requests.Lookup as lookup
+use Rattle.mount_rules.specs.Requests.Opendir as opendir
+use Rattle.mount_rules.specs.Requests.Readdir as readdir
+use Rattle.mount_rules.specs.Requests.Releasedir as releasedir
+use Rattle.mount_rules.specs.Requests.Statfs as statfs
+use Rattle.mount_rules.specs.Requests.Unserved as unserved
+use Rattle.mount_rules.specs.Rules.{Rules, Taken}
+use Rattle.mount_rules.specs.View.{View, view_of}
 
 -- the opcodes of fuse.h that never get a reply: FUSE_FORGET, FUSE_INTERRUPT and FUSE_BATCH_FORGET
 abbrev pub silent_opcodes : List ℕ

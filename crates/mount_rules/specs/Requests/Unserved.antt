@@ -3,8 +3,8 @@
 -- sends without waiting for a reply.
 use Rattle.std.specs.Prelude.{ℕ, None, Option, []}
 use Rattle.fuse_replies.specs.declared.reply.Reply.TheVariants.{Silent}
-use Rattle.mount_spec.specs.Plans.{done}
-use Rattle.mount_spec.specs.Rules.{Rules, nowhere}
+use Rattle.mount_rules.specs.Plans.{done}
+use Rattle.mount_rules.specs.Rules.{Rules, nowhere}
 
 -- what refuses it, if anything does
 abbrev pub rules : Option ℕ → Rules
