@@ -2,7 +2,7 @@
 -- number of its bytes.
 use Rattle.std.specs.Prelude.{◌≡◌, ◌<◌, ◌≤◌, ◌++◌, ◌⊎◌, ℕ, List, All, length, take}
 use Rattle.std.specs.List.{concat}
-use Rattle.fuse_head.specs.Head.{IsWholeFrame}
+use Rattle.fuse_head.specs.Head.{longest_frame, IsWholeFrame}
 use Rattle.fuse_head.specs.Little.{u32_at}
 
 -- no whole frame stands at the front of the bytes
@@ -23,12 +23,12 @@ pub record IsBelow40 (rest : List ℕ) : Type 0 where
 -- the four bytes of a len are there, and it is above 135,168
 pub record IsOver (rest : List ℕ) : Type 0 where
   pub told : 4 ≤ length rest
-  pub over : 135168 < u32_at rest 0
+  pub over : longest_frame < u32_at rest 0
 
 -- the four bytes of a len aren't all there, or it is one that a frame may have
 pub record IsSound (rest : List ℕ) : Type 0 where
   pub least : 4 ≤ length rest → 40 ≤ u32_at rest 0
-  pub most : 4 ≤ length rest → u32_at rest 0 ≤ 135168
+  pub most : 4 ≤ length rest → u32_at rest 0 ≤ longest_frame
 
 -- a bad len stands at the front
 abbrev pub IsBad : List ℕ → Type 0

@@ -1,6 +1,6 @@
 -- What the steps of cutting say of the front of bytes.
 use Rattle.std.specs.Prelude.{◌≡◌, ◌<◌, ◌≤◌, ◌++◌, ◌⊎◌, ℕ, List, [], Option, None, Some, length, max, take}
-use Rattle.fuse_head.specs.Head.{IsWholeFrame}
+use Rattle.fuse_head.specs.Head.{longest_frame, IsWholeFrame}
 use Rattle.fuse_head.specs.Little.{u32_at}
 use Rattle.fuse_frames.specs.Cut.{IsBad, IsBelow40, IsOver, IsSound, IsUnfinished}
 use Rattle.fuse_frames.specs.declared.fault.CutFault.{CutFault}
@@ -19,7 +19,7 @@ pub record TellsLen (rest : List ℕ) (len : ℕ) : Type 0 where
   pub told : 4 ≤ length rest
   pub is : u32_at rest 0 ≡ len
   pub least : 40 ≤ len
-  pub most : len ≤ 135168
+  pub most : len ≤ longest_frame
 
 -- the len of the frame at the front, where it can be told
 abbrev pub SaysLen : List ℕ → Option ℕ → Type 0

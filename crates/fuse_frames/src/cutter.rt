@@ -1,3 +1,4 @@
+//! The cutter: bytes go in in pieces of any length, and whole frames come out.
 ghost use Rattle.std.specs.Prelude.{◌≡◌, ◌≤◌, ◌+◌, ◌^◌, List, [], length, ℕ};
 ghost use Rattle.fuse_frames.specs.Cut.{IsSound};
 ghost use Rattle.fuse_frames.specs.Cutter.{Fed, Finishes, Gives, HasRead, HasStopped, fed, fresh, gave_after, stream_after};

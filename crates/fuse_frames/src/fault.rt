@@ -1,3 +1,4 @@
+//! Why a stream of frames ends amiss.
 /// Why a stream of frames isn't cut any further, or has ended amiss. Each number is the place in the stream of the
 /// first byte of the frame that is meant.
 #[derive(Clone, Copy, Debug, PartialEq, Eq)]

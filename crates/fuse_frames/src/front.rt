@@ -1,5 +1,6 @@
+//! What stands at the front of bytes: a bad length, a whole frame, or less than one.
 ghost use Rattle.std.specs.Prelude.{◌≡◌, ◌≤◌, ◌++◌, ◌⊎◌, [], IfOk, MatchOption, OnErr, length, take};
-ghost use Rattle.fuse_head.specs.Head.{IsWholeFrame};
+ghost use Rattle.fuse_head.specs.Head.{longest_frame, IsWholeFrame};
 ghost use Rattle.fuse_head.specs.Little as little;
 ghost use Rattle.fuse_frames.specs.Cut.{Cuts, IsSound, IsUnfinished};
 ghost use Rattle.fuse_frames.specs.Front.{Begins, Fills, GrowsTo, SaysBadLen, SaysLen};
@@ -79,7 +80,7 @@ pub(crate) fn whole_frames<'a>(
 /// Moves bytes from the front of `bytes` behind `rest` until it has `size` of them or none is left, and hands back
 /// those that are left. Where memory is refused, `rest` is as it was.
 fn fill<'a>(rest: &mut Vec<u8>, size: usize, bytes: &'a [u8]) -> Result<&'a [u8], NoMemory>
-    requires { size ≤ 135168 }
+    requires { size ≤ longest_frame }
     ensures ok { IfOk result (λ left. Fills rest.old.items size bytes.entry.now rest.new.items left.now) }
     ensures err { OnErr result (rest.new.items ≡ rest.old.items) }
 {

@@ -1,3 +1,4 @@
+//! One piece more: how a frame that has begun grows, and which frames become whole.
 ghost use Rattle.std.specs.Prelude.{◌≡◌, ◌≤◌, ◌+◌, ◌++◌, [], ◌∷◌, IfNone, IfOk, IfSome, OnErr, length, take};
 ghost use Rattle.std.specs.VecDeque.{deque_capacity, deque_len};
 ghost use Rattle.fuse_frames.specs.Cut.{IsSound, IsUnfinished, Keeps};

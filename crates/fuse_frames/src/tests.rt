@@ -1,3 +1,4 @@
+//! What no clause says of cutting: that it succeeds with ample memory, in pieces of any length.
 ghost use Rattle.std.specs.Prelude.{◌≤◌, ◌+◌, ◌^◌, length};
 ghost use Rattle.fuse_frames.specs.Cutter.{fed};
 

@@ -3,6 +3,7 @@
 use Rattle.std.specs.Prelude.{◌≡◌, ◌<◌, ◌≤◌, ◌-◌, ◌%◌, ◌^◌, ◌++◌, ℕ, List, length}
 use Rattle.fuse_head.specs.Little.{u32_at, u32_bytes, u64_at, u64_bytes}
 use Rattle.fuse_head.specs.declared.in_head.InHead.{InHead}
+use Rattle.fuse_head.specs.declared.out_head.OutHead.{OutHead}
 
 -- the request head that begins a list of at least 40 bytes; bytes 36 to 39 are padding
 abbrev pub in_head : List ℕ → InHead
@@ -15,6 +16,10 @@ in_head bytes = record {
   gid = u32_at bytes 28;
   pid = u32_at bytes 32;
 }
+
+-- the most bytes of a request frame: 131,072 of content and a page of 4,096 for what stands before it
+abbrev pub longest_frame : ℕ
+longest_frame = 135168
 
 -- the text of a request head, 40 bytes: its fields in order and four bytes of padding
 abbrev pub in_head_text : InHead → List ℕ
@@ -36,7 +41,7 @@ pub record IsHead (head : InHead) : Type 0 where
 -- the length that the head tells
 pub record IsWholeFrame (bytes : List ℕ) : Type 0 where
   pub headed : 40 ≤ length bytes
-  pub fits : length bytes ≤ 135168
+  pub fits : length bytes ≤ longest_frame
   pub told : u32_at bytes 0 ≡ length bytes
 
 -- what the four bytes of a reply's error hold: 0, or the errno negated, in two's complement
@@ -46,3 +51,7 @@ negated errno = (2 ^ 32 - errno) % 2 ^ 32
 -- the text of a reply head, 16 bytes
 abbrev pub out_head : ℕ → ℕ → ℕ → List ℕ
 out_head len errno unique = u32_bytes len ++ u32_bytes (negated errno) ++ u64_bytes unique
+
+-- the reply head that begins a list of at least 16 bytes: its error is negated back
+abbrev pub out_head_at : List ℕ → OutHead
+out_head_at bytes = record { len = u32_at bytes 0; errno = negated (u32_at bytes 4); unique = u64_at bytes 8 }

@@ -1,7 +1,9 @@
-ghost use Rattle.std.specs.Prelude.{◌≡◌, ◌≤◌, ◌+◌, ◌++◌, drop, length, take};
+//! Little-endian fields at a place of bytes, and at their end.
+ghost use Rattle.std.specs.Prelude.{◌≡◌, ◌≤◌, ◌+◌, ◌++◌, drop, length, take, OnOk};
 ghost use Rattle.fuse_head.specs.Little as little;
 
 use byteorder::{ByteOrder, LittleEndian};
+use std::alloc::AllocError;
 
 /// The little-endian number in the two bytes from `place` on.
 #[tactic(auto, unfolding(crate::specs::Little::u16_at))]
@@ -55,4 +57,28 @@ pub fn put_u64(out: &mut [u8], place: usize, n: u64)
     ensures kept { drop (place + 8) out.new ≡ drop (place + 8) out.old }
 {
     LittleEndian::write_u64(&mut out[place..], n);
+}
+
+/// Appends the little-endian number, two bytes. An error where memory for them was refused.
+#[tactic(auto, unfolding(crate::specs::Little::u16_bytes))]
+pub fn append_u16(out: &mut Vec<u8>, n: u16) -> Result<(), AllocError>
+    ensures ok { OnOk result (out.new.items ≡ out.old.items ++ little.u16_bytes n) }
+{
+    out.extend_from_slice(&n.to_le_bytes())
+}
+
+/// Appends the little-endian number, four bytes. An error where memory for them was refused.
+#[tactic(auto, unfolding(crate::specs::Little::u32_bytes))]
+pub fn append_u32(out: &mut Vec<u8>, n: u32) -> Result<(), AllocError>
+    ensures ok { OnOk result (out.new.items ≡ out.old.items ++ little.u32_bytes n) }
+{
+    out.extend_from_slice(&n.to_le_bytes())
+}
+
+/// Appends the little-endian number, eight bytes. An error where memory for them was refused.
+#[tactic(auto, unfolding(crate::specs::Little::u64_bytes))]
+pub fn append_u64(out: &mut Vec<u8>, n: u64) -> Result<(), AllocError>
+    ensures ok { OnOk result (out.new.items ≡ out.old.items ++ little.u64_bytes n) }
+{
+    out.extend_from_slice(&n.to_le_bytes())
 }

@@ -1,6 +1,6 @@
+//! Heads of requests, and whole request frames.
 ghost use Rattle.std.specs.Prelude.{◌≡◌, ◌≤◌, ◌<◌, ◌↔◌, length, IfOk, IsErrOf, IsTrue};
 ghost use Rattle.fuse_head.specs.Head.{in_head, in_head_text, IsWholeFrame};
-ghost use Rattle.fuse_head.specs.Little as little;
 
 use crate::fields::{put_u32, put_u64, u32_at, u64_at};
 
@@ -42,12 +42,12 @@ pub enum HeadFault {
 pub fn read_head(bytes: &[u8]) -> Result<InHead, HeadFault>
     ensures ok { IfOk result (λ head. (40 ≤ length bytes.now) × (40 ≤ head.len) × (head ≡ in_head bytes.now)) }
     ensures short { IsErrOf result HeadFault.Short ↔ (length bytes.now < 40) }
-    ensures below { IsErrOf result HeadFault.LenBelow40 ↔ ((40 ≤ length bytes.now) × (little.u32_at bytes.now 0 < 40)) }
+    ensures below { IsErrOf result HeadFault.LenBelow40 ↔ ((40 ≤ length bytes.now) × ((in_head bytes.now).len < 40)) }
 {
     if bytes.len() < 40 {
         return Err(HeadFault::Short);
     }
-    let head = head_at_front(bytes);
+    let head = head_of(bytes);
     if head.len < 40 {
         return Err(HeadFault::LenBelow40);
     }
@@ -77,7 +77,9 @@ pub fn write_in_head(head: &InHead, out: &mut [u8; 40])
     put_u32(out, 36, 0);
 }
 
-fn head_at_front(bytes: &[u8]) -> InHead
+/// The request head at the front of `bytes`, whatever its `len` tells: for bytes that are known to have one, as a
+/// whole frame does. The padding is ignored.
+pub fn head_of(bytes: &[u8]) -> InHead
     requires { 40 ≤ length bytes.now }
     ensures { result ≡ in_head bytes.now }
 {

@@ -7,6 +7,10 @@ mod out_head;
 #[cfg(test)]
 mod tests;
 
-pub use fields::{put_u16, put_u32, put_u64, u16_at, u32_at, u64_at};
-pub use in_head::{HeadFault, InHead, LONGEST_FRAME, read_head, whole_frame, write_in_head};
-pub use out_head::write_out_head;
+pub use fields::{
+    append_u16, append_u32, append_u64, put_u16, put_u32, put_u64, u16_at, u32_at, u64_at,
+};
+pub use in_head::{
+    HeadFault, InHead, LONGEST_FRAME, head_of, read_head, whole_frame, write_in_head,
+};
+pub use out_head::{OutHead, out_head_of, write_out_head};

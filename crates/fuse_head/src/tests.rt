@@ -1,7 +1,9 @@
+//! What no clause says of heads and fields: where each field stands in bytes from outside.
 use crate::{
-    HeadFault, InHead, LONGEST_FRAME, read_head, u16_at, u32_at, u64_at, whole_frame,
-    write_in_head, write_out_head,
+    HeadFault, InHead, LONGEST_FRAME, OutHead, append_u16, append_u32, append_u64, out_head_of,
+    read_head, u16_at, u32_at, u64_at, whole_frame, write_in_head, write_out_head,
 };
+use std::test::Fail;
 
 /// The head of an INIT of protocol 7.31, unique 1, as a kernel sends it.
 const INIT_HEAD: [u8; 40] = [
@@ -84,4 +86,25 @@ fn a_reply_s_error_stands_negated(rt: HostRuntime) {
         ]
         .as_slice()
     );
+    assert_eq!(rt;
+        out_head_of(&head),
+        OutHead {
+            len: 16,
+            errno: 71,
+            unique: 2,
+        }
+    );
+}
+
+#[test]
+fn numbers_are_appended_lowest_byte_first(rt: HostRuntime) -> Result<(), Fail> {
+    let mut out = Vec::new(rt.alloc());
+    append_u16(&mut out, 0x0201)?;
+    append_u32(&mut out, 0x0605_0403)?;
+    append_u64(&mut out, 0x0e0d_0c0b_0a09_0807)?;
+    assert_eq!(rt;
+        out.as_slice(),
+        [1, 2, 3, 4, 5, 6, 7, 8, 9, 10, 11, 12, 13, 14].as_slice()
+    );
+    Ok(())
 }

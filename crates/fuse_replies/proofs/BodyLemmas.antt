@@ -14,14 +14,14 @@ use Rattle.fuse_replies.specs.declared.reply.ReplyKind.{ReplyKind}
 use Rattle.fuse_replies.specs.declared.reply.ReplyKind.TheVariants as kinds
 use Rattle.fuse_replies.specs.Layouts.{attr_out_text, dirents_text, entry_text, init_text, open_text, statfs_text, u16s, u32s, waits_text, written_text}
 use Rattle.fuse_replies.specs.Reading.{created_text, numbers_text, AreNumbers, IsBody, IsCreated, Reads, ReadsBody, Refuses}
-use Rattle.fuse_replies.specs.Replies.{body_of, plain, IsAttr, IsDirent, IsEntry}
+use Rattle.fuse_replies.specs.Replies.{body_of, without_spare, IsAttr, IsDirent, IsEntry}
 use Rattle.fuse_replies.proofs.DirentLemmas.{dirents_same}
 use Rattle.fuse_replies.proofs.ReadLemmas.{untrue}
 
 -- The replies of a kind carry values, and their bodies are the texts of these.
 pub record Carries {A : Type 0} (kind : ReplyKind) (make : A → Reply) (text : A → List ℕ) (fits : A → Type 0) : Type 0 where
-  pub wrap : (x : A) (bytes : List ℕ) → fits x → bytes ≡ text x → IsBody kind (plain (make x)) bytes
-  pub unwrap : (reply : Reply) (bytes : List ℕ) → IsBody kind reply bytes → (x : A) × (plain reply ≡ plain (make x)) × fits x × (bytes ≡ text x)
+  pub wrap : (x : A) (bytes : List ℕ) → fits x → bytes ≡ text x → IsBody kind (without_spare (make x)) bytes
+  pub unwrap : (reply : Reply) (bytes : List ℕ) → IsBody kind reply bytes → (x : A) × (without_spare reply ≡ without_spare (make x)) × fits x × (bytes ≡ text x)
 
 pub reads_value : {A : Type 0} (kind : ReplyKind) (make : A → Reply) (text : A → List ℕ) (fits : A → Type 0) → Carries kind make text fits → (bytes : List ℕ) (read : Option A) (x : A) → Reads text fits bytes read → read ≡ Some x → ReadsBody kind bytes (Ok (make x))
 reads_value {A} kind make text fits carries bytes read x reads is =
@@ -32,7 +32,7 @@ reads_value {A} kind make text fits carries bytes read x reads is =
           let of = carries.unwrap reply bytes body in
           let same : Some x ≡ Some of.0 = at.again of.0 of.2 of.3 in
           let x-is : x ≡ of.0 = cc in
-          ap (λ (y : A). plain (make y)) x-is ∙ sym of.1;
+          ap (λ (y : A). without_spare (make y)) x-is ∙ sym of.1;
     }
 
 pub reads_nothing : {A : Type 0} (kind : ReplyKind) (make : A → Reply) (text : A → List ℕ) (fits : A → Type 0) → Carries kind make text fits → (bytes : List ℕ) (read : Option A) (fault : ReplyFault) → Reads text fits bytes read → read ≡ None → ReadsBody kind bytes (Err fault)
@@ -44,7 +44,7 @@ reads_nothing {A} kind make text fits carries bytes read fault reads is =
     }
 
 -- a reply whose body is always the same
-pub reads_fixed : (kind : ReplyKind) (reply : Reply) (text : List ℕ) → ((bytes : List ℕ) → bytes ≡ text → IsBody kind (plain reply) bytes) → ((other : Reply) (bytes : List ℕ) → IsBody kind other bytes → (plain other ≡ plain reply) × (bytes ≡ text))
+pub reads_fixed : (kind : ReplyKind) (reply : Reply) (text : List ℕ) → ((bytes : List ℕ) → bytes ≡ text → IsBody kind (without_spare reply) bytes) → ((other : Reply) (bytes : List ℕ) → IsBody kind other bytes → (without_spare other ≡ without_spare reply) × (bytes ≡ text))
     → (bytes : List ℕ) (is : Bool) → (IsTrue is → bytes ≡ text) → (bytes ≡ text → IsTrue is) → ReadsBody kind bytes (cond is (Ok reply) (Err faults.Malformed))
 reads_fixed kind reply text wrap unwrap bytes true if_is all = record {
   found = wrap bytes (if_is refl);
@@ -55,7 +55,7 @@ reads_fixed kind reply text wrap unwrap bytes false if_is all = record {
   again = λ other body. absurd (untrue (all (unwrap other bytes body).1));
 }
 
-entry_unwrap : (reply : Reply) (bytes : List ℕ) → IsBody kinds.Entry reply bytes → (x : EntryOut) × (plain reply ≡ plain (Entry x)) × IsEntry x × (bytes ≡ entry_text x)
+entry_unwrap : (reply : Reply) (bytes : List ℕ) → IsBody kinds.Entry reply bytes → (x : EntryOut) × (without_spare reply ≡ without_spare (Entry x)) × IsEntry x × (bytes ≡ entry_text x)
 unfolding body_of
 entry_unwrap (Entry x) bytes body = (x, refl, body.reply_fits.in_range, body.text)
 entry_unwrap (Error errno) bytes body = absurd (omega (arith, body.reply_fits.sendable.0, body.done))
@@ -69,7 +69,7 @@ entry_carries = record {
   unwrap = entry_unwrap;
 }
 
-attr_unwrap : (reply : Reply) (bytes : List ℕ) → IsBody kinds.Attr reply bytes → (x : AttrOut) × (plain reply ≡ plain (Attr x)) × IsAttr x × (bytes ≡ attr_out_text x)
+attr_unwrap : (reply : Reply) (bytes : List ℕ) → IsBody kinds.Attr reply bytes → (x : AttrOut) × (without_spare reply ≡ without_spare (Attr x)) × IsAttr x × (bytes ≡ attr_out_text x)
 unfolding body_of
 attr_unwrap (Attr x) bytes body = (x, refl, body.reply_fits.in_range, body.text)
 attr_unwrap (Error errno) bytes body = absurd (omega (arith, body.reply_fits.sendable.0, body.done))
@@ -83,7 +83,7 @@ attr_carries = record {
   unwrap = attr_unwrap;
 }
 
-created_unwrap : (reply : Reply) (bytes : List ℕ) → IsBody kinds.Created reply bytes → (x : EntryOut × ℕ) × (plain reply ≡ Created x.0 x.1) × IsCreated x × (bytes ≡ created_text x)
+created_unwrap : (reply : Reply) (bytes : List ℕ) → IsBody kinds.Created reply bytes → (x : EntryOut × ℕ) × (without_spare reply ≡ Created x.0 x.1) × IsCreated x × (bytes ≡ created_text x)
 unfolding body_of
 created_unwrap (Created entry fh) bytes body = ((entry, fh), refl, body.reply_fits.in_range, body.text)
 created_unwrap (Error errno) bytes body = absurd (omega (arith, body.reply_fits.sendable.0, body.done))
@@ -97,7 +97,7 @@ created_carries = record {
   unwrap = created_unwrap;
 }
 
-opened_unwrap : (reply : Reply) (bytes : List ℕ) → IsBody kinds.Opened reply bytes → (x : ℕ) × (plain reply ≡ plain (Opened x)) × (x < 2 ^ 64) × (bytes ≡ open_text x)
+opened_unwrap : (reply : Reply) (bytes : List ℕ) → IsBody kinds.Opened reply bytes → (x : ℕ) × (without_spare reply ≡ without_spare (Opened x)) × (x < 2 ^ 64) × (bytes ≡ open_text x)
 unfolding body_of
 opened_unwrap (Opened x) bytes body = (x, refl, body.reply_fits.in_range, body.text)
 opened_unwrap (Error errno) bytes body = absurd (omega (arith, body.reply_fits.sendable.0, body.done))
@@ -111,7 +111,7 @@ opened_carries = record {
   unwrap = opened_unwrap;
 }
 
-written_unwrap : (reply : Reply) (bytes : List ℕ) → IsBody kinds.Written reply bytes → (x : ℕ) × (plain reply ≡ plain (Written x)) × (x < 2 ^ 32) × (bytes ≡ written_text x)
+written_unwrap : (reply : Reply) (bytes : List ℕ) → IsBody kinds.Written reply bytes → (x : ℕ) × (without_spare reply ≡ without_spare (Written x)) × (x < 2 ^ 32) × (bytes ≡ written_text x)
 unfolding body_of
 written_unwrap (Written x) bytes body = (x, refl, body.reply_fits.in_range, body.text)
 written_unwrap (Error errno) bytes body = absurd (omega (arith, body.reply_fits.sendable.0, body.done))
@@ -125,7 +125,7 @@ written_carries = record {
   unwrap = written_unwrap;
 }
 
-content_unwrap : (reply : Reply) (bytes : List ℕ) → IsBody kinds.Content reply bytes → (x : List ℕ) × (plain reply ≡ plain (Content x)) × (16 + length x < 2 ^ 32) × (bytes ≡ x)
+content_unwrap : (reply : Reply) (bytes : List ℕ) → IsBody kinds.Content reply bytes → (x : List ℕ) × (without_spare reply ≡ without_spare (Content x)) × (16 + length x < 2 ^ 32) × (bytes ≡ x)
 unfolding body_of
 content_unwrap (Content x) bytes body = (x, refl, omega (arith, body.reply_fits.sendable), body.text)
 content_unwrap (Error errno) bytes body = absurd (omega (arith, body.reply_fits.sendable.0, body.done))
@@ -139,7 +139,7 @@ content_carries = record {
   unwrap = content_unwrap;
 }
 
-target_unwrap : (reply : Reply) (bytes : List ℕ) → IsBody kinds.Target reply bytes → (x : List ℕ) × (plain reply ≡ plain (Target x)) × (16 + length x < 2 ^ 32) × (bytes ≡ x)
+target_unwrap : (reply : Reply) (bytes : List ℕ) → IsBody kinds.Target reply bytes → (x : List ℕ) × (without_spare reply ≡ without_spare (Target x)) × (16 + length x < 2 ^ 32) × (bytes ≡ x)
 unfolding body_of
 target_unwrap (Target x) bytes body = (x, refl, omega (arith, body.reply_fits.sendable), body.text)
 target_unwrap (Error errno) bytes body = absurd (omega (arith, body.reply_fits.sendable.0, body.done))
@@ -163,7 +163,7 @@ reads_bytes kind make carries body bytes fits is =
 pub refused : (kind : ReplyKind) (body : List ℕ) (fault : ReplyFault) → fault ≡ faults.NoMemory → ReadsBody kind body (Err fault)
 refused kind body fault is = record { found = tt; again = λ reply of. is }
 
-stat_unwrap : (reply : Reply) (bytes : List ℕ) → IsBody kinds.Stat reply bytes → (plain reply ≡ Stat) × (bytes ≡ statfs_text)
+stat_unwrap : (reply : Reply) (bytes : List ℕ) → IsBody kinds.Stat reply bytes → (without_spare reply ≡ Stat) × (bytes ≡ statfs_text)
 unfolding body_of
 stat_unwrap Stat bytes body = (refl, body.text)
 stat_unwrap (Error errno) bytes body = absurd (omega (arith, body.reply_fits.sendable.0, body.done))
@@ -174,7 +174,7 @@ pub reads_stat : (bytes : List ℕ) (is : Bool) → (IsTrue is → bytes ≡ sta
 unfolding body_of
 reads_stat = reads_fixed kinds.Stat Stat statfs_text (λ bytes is. record { reply_fits = record { sendable = tt; in_range = tt }; answers = refl; done = refl; text = is }) stat_unwrap
 
-empty_unwrap : (reply : Reply) (bytes : List ℕ) → IsBody kinds.Empty reply bytes → (plain reply ≡ Empty) × (bytes ≡ [])
+empty_unwrap : (reply : Reply) (bytes : List ℕ) → IsBody kinds.Empty reply bytes → (without_spare reply ≡ Empty) × (bytes ≡ [])
 unfolding body_of
 empty_unwrap Empty bytes body = (refl, body.text)
 empty_unwrap (Error errno) bytes body = absurd (omega (arith, body.reply_fits.sendable.0, body.done))
@@ -187,7 +187,7 @@ reads_empty = reads_fixed kinds.Empty Empty [] (λ bytes is. record { reply_fits
 
 -- what an answer to INIT is
 pub init_unwrap : (reply : Reply) (bytes : List ℕ) → IsBody kinds.InitDone reply bytes
-    → ((plain reply ≡ InitDone 0 0 true) × (bytes ≡ waits_text)) ⊎ ((x : ℕ × ℕ) × (plain reply ≡ InitDone x.0 x.1 false) × AreNumbers x × (bytes ≡ numbers_text x))
+    → ((without_spare reply ≡ InitDone 0 0 true) × (bytes ≡ waits_text)) ⊎ ((x : ℕ × ℕ) × (without_spare reply ≡ InitDone x.0 x.1 false) × AreNumbers x × (bytes ≡ numbers_text x))
 unfolding body_of
 init_unwrap (InitDone readahead flags true) bytes body =
     let none = body.reply_fits.sendable refl in
@@ -241,7 +241,7 @@ reads_no_init bytes read fault other reads is =
 abbrev listed : List Dirent → Reply
 listed ds = Dirents (record { items = ds; spare = 0 })
 
-pub dirents_unwrap : (reply : Reply) (bytes : List ℕ) → IsBody kinds.Dirents reply bytes → (ds : List Dirent) × (plain reply ≡ listed ds) × All IsDirent ds × (bytes ≡ dirents_text ds)
+pub dirents_unwrap : (reply : Reply) (bytes : List ℕ) → IsBody kinds.Dirents reply bytes → (ds : List Dirent) × (without_spare reply ≡ listed ds) × All IsDirent ds × (bytes ≡ dirents_text ds)
 unfolding body_of
 dirents_unwrap (Dirents row) bytes body = (row.items, refl, body.reply_fits.in_range, body.text)
 dirents_unwrap (Error errno) bytes body = absurd (omega (arith, body.reply_fits.sendable.0, body.done))

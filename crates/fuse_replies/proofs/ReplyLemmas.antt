@@ -5,7 +5,7 @@ use Rattle.fuse_head.specs.Head.{out_head}
 use Rattle.fuse_replies.specs.declared.reply.Reply.{Reply}
 use Rattle.fuse_replies.specs.declared.reply.Reply.TheVariants.{Error, Entry, Attr, Created, Opened, Content, Target, Written, Stat, Dirents, InitDone, Empty, Silent}
 use Rattle.fuse_replies.specs.Layouts.{entry_text, open_text}
-use Rattle.fuse_replies.specs.Replies.{body_of, errno_of, frame_of, plain, IsSendable}
+use Rattle.fuse_replies.specs.Replies.{body_of, errno_of, frame_of, without_spare, IsSendable}
 use Rattle.fuse_replies.proofs.TextLemmas.{length-attr_out_text, length-entry_text, length-init_text, length-open_text, length-statfs_text, length-waits_text, length-written_text}
 
 -- a request that gets no reply has no frame
@@ -49,20 +49,20 @@ length-body_of Empty fits = omega arith
 length-body_of Silent fits = omega arith
 
 -- a reply that is plainly silent is silent
-pub plain-silent : (reply : Reply) → (reply ≡ Silent → ⊥) → plain reply ≡ Silent → ⊥
-plain-silent (Error errno) sent = λ e. absurd cc
-plain-silent (Entry entry) sent = λ e. absurd cc
-plain-silent (Attr attr) sent = λ e. absurd cc
-plain-silent (Created entry fh) sent = λ e. absurd cc
-plain-silent (Opened fh) sent = λ e. absurd cc
-plain-silent (Content bytes) sent = λ e. absurd cc
-plain-silent (Target bytes) sent = λ e. absurd cc
-plain-silent (Written size) sent = λ e. absurd cc
-plain-silent Stat sent = λ e. absurd cc
-plain-silent (Dirents row) sent = λ e. absurd cc
-plain-silent (InitDone readahead flags waits) sent = λ e. absurd cc
-plain-silent Empty sent = λ e. absurd cc
-plain-silent Silent sent = λ e. absurd (sent refl)
+pub without_spare-silent : (reply : Reply) → (reply ≡ Silent → ⊥) → without_spare reply ≡ Silent → ⊥
+without_spare-silent (Error errno) sent = λ e. absurd cc
+without_spare-silent (Entry entry) sent = λ e. absurd cc
+without_spare-silent (Attr attr) sent = λ e. absurd cc
+without_spare-silent (Created entry fh) sent = λ e. absurd cc
+without_spare-silent (Opened fh) sent = λ e. absurd cc
+without_spare-silent (Content bytes) sent = λ e. absurd cc
+without_spare-silent (Target bytes) sent = λ e. absurd cc
+without_spare-silent (Written size) sent = λ e. absurd cc
+without_spare-silent Stat sent = λ e. absurd cc
+without_spare-silent (Dirents row) sent = λ e. absurd cc
+without_spare-silent (InitDone readahead flags waits) sent = λ e. absurd cc
+without_spare-silent Empty sent = λ e. absurd cc
+without_spare-silent Silent sent = λ e. absurd (sent refl)
 
 pub ruleset body_lengths = (length-append, length-attr_out_text, length-entry_text, length-init_text, length-open_text, length-statfs_text, length-waits_text, length-written_text)
 

@@ -1,7 +1,7 @@
 -- The bodies of replies, after the structs of Linux fuse.h (protocol 7.31): fuse_attr, fuse_entry_out,
 -- fuse_attr_out, fuse_open_out, fuse_write_out, fuse_kstatfs, fuse_init_out and fuse_dirent. Fields stand in the
 -- structs' order, little-endian and with no gaps.
-use Rattle.std.specs.Prelude.{ℕ, ◌-◌, ◌%◌, List, [], ◌∷◌, ◌++◌, length, replicate}
+use Rattle.std.specs.Prelude.{ℕ, ◌+◌, ◌-◌, ◌%◌, List, [], ◌∷◌, ◌++◌, length, replicate}
 use Rattle.std.specs.Int.{div_ceil}
 use Rattle.std.specs.List.{flat_map}
 use Rattle.fuse_head.specs.Little.{u16_bytes, u32_bytes, u64_bytes}
@@ -69,6 +69,10 @@ unfoldable pub dirent_text : Dirent → List ℕ
 dirent_text d =
     u64s (4294967295 ∷ d.off ∷ []) ++ u32s (length d.name ∷ d.kind ∷ []) ++ d.name
     ++ replicate (padding_of (length d.name)) 0
+
+-- the bytes of the fuse_dirent of a name, as FUSE_DIRENT_SIZE has them
+abbrev pub dirent_len : List ℕ → ℕ
+dirent_len name = 24 + length name + padding_of (length name)
 
 unfoldable pub dirents_text : List Dirent → List ℕ
 dirents_text dirents = flat_map dirent_text dirents

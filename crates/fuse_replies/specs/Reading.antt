@@ -11,7 +11,7 @@ use Rattle.fuse_replies.specs.declared.reply.Reply.{Reply}
 use Rattle.fuse_replies.specs.declared.reply.ReplyKind.{ReplyKind}
 use Rattle.fuse_replies.specs.declared.reply.EntryOut.{EntryOut}
 use Rattle.fuse_replies.specs.Layouts.{entry_text, init_text, open_text, padding_of, u32s, u64s}
-use Rattle.fuse_replies.specs.Replies.{body_of, errno_of, plain, IsEntry, IsOfKind, IsReply}
+use Rattle.fuse_replies.specs.Replies.{body_of, errno_of, without_spare, IsEntry, IsOfKind, IsReply}
 
 -- What follows these bytes where the others begin with them, and none where they don't.
 abbrev pub Strips : List ℕ → List ℕ → Option (Bor (List ℕ)) → Type 0
@@ -88,12 +88,12 @@ pub record IsBody (kind : ReplyKind) (reply : Reply) (bytes : List ℕ) : Type 0
   pub text : bytes ≡ body_of reply
 
 abbrev pub GivesReply : Reply → Result Reply ReplyFault → Type 0
-GivesReply reply (Ok read) = plain read ≡ plain reply
+GivesReply reply (Ok read) = without_spare read ≡ without_spare reply
 GivesReply reply (Err fault) = fault ≡ faults.NoMemory
 
 -- the reply whose body the bytes are, unless memory was refused
 pub record ReadsBody (kind : ReplyKind) (bytes : List ℕ) (result : Result Reply ReplyFault) : Type 0 where
-  pub found : IfOk result (λ reply. IsBody kind (plain reply) bytes)
+  pub found : IfOk result (λ reply. IsBody kind (without_spare reply) bytes)
   pub again : (reply : Reply) → IsBody kind reply bytes → GivesReply reply result
 
 -- a frame is its head, which has its length, and a body

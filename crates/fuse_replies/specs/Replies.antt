@@ -14,9 +14,9 @@ use Rattle.fuse_replies.specs.declared.reply.ReplyKind.TheVariants as kinds
 use Rattle.fuse_replies.specs.Layouts.{attr_out_text, dirents_text, entry_text, init_text, open_text, statfs_text, waits_text, written_text}
 
 -- a reply without the room that its row has beyond its items
-abbrev pub plain : Reply → Reply
-plain (Dirents row) = Dirents (record { items = row.items; spare = 0 })
-plain reply = reply
+abbrev pub without_spare : Reply → Reply
+without_spare (Dirents row) = Dirents (record { items = row.items; spare = 0 })
+without_spare reply = reply
 
 -- the bytes after the head
 unfoldable pub body_of : Reply → List ℕ
@@ -108,6 +108,13 @@ IsOfKind kind (InitDone readahead flags waits) = kind ≡ kinds.InitDone
 IsOfKind kind Empty = kind ≡ kinds.Empty
 IsOfKind kind Silent = ⊥
 
+-- the replies of this kind hold bytes or entries, which are values of their own
+abbrev pub HasPayload : ReplyKind → Type 0
+HasPayload kinds.Content = Unit {0}
+HasPayload kinds.Target = Unit {0}
+HasPayload kinds.Dirents = Unit {0}
+HasPayload kind = ⊥
+
 -- the bytes are the frame of a well-formed reply, with this unique, to a request of this kind
 pub record IsFrame (kind : ReplyKind) (unique : ℕ) (reply : Reply) (bytes : List ℕ) : Type 0 where
   pub unique_fits : unique < 2 ^ 64
@@ -117,5 +124,5 @@ pub record IsFrame (kind : ReplyKind) (unique : ℕ) (reply : Reply) (bytes : Li
 
 -- what was read is this unique and this reply, unless memory was refused
 abbrev pub GivesBack : ℕ → Reply → Result (ℕ × Reply) ReplyFault → Type 0
-GivesBack unique reply (Ok read) = (read.0 ≡ unique) × (plain read.1 ≡ plain reply)
+GivesBack unique reply (Ok read) = (read.0 ≡ unique) × (without_spare read.1 ≡ without_spare reply)
 GivesBack unique reply (Err fault) = fault ≡ faults.NoMemory

@@ -1,3 +1,4 @@
+//! Bodies of replies that have one length: written, and read where the bytes are one.
 ghost use Rattle.std.specs.Prelude.{◌≡◌, ◌≤◌, ◌<◌, ◌^◌, ◌++◌, ◌∷◌, ◌↔◌, [], length, OnOk, IsTrue};
 ghost use Rattle.std.specs.Int.{div_ceil};
 ghost use Rattle.fuse_replies.specs.Layouts.{attr_out_text, attr_text, entry_text, open_text, statfs_text, written_text};

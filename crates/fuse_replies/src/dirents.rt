@@ -1,6 +1,8 @@
+//! Entries of a directory in a reply: their length, written and read.
 ghost use Rattle.std.specs.Prelude.{◌≡◌, ◌≢◌, ◌≤◌, ◌<◌, ◌^◌, ◌+◌, ◌++◌, List, ℕ, length, replicate, All, OnOk};
 ghost use Rattle.std.specs.Str.{IsUtf8};
 ghost use Rattle.fuse_replies.specs.declared.reply.Dirent.{Dirent as DirentValue};
+ghost use Rattle.fuse_replies.specs.Layouts as layouts;
 ghost use Rattle.fuse_replies.specs.Layouts.{dirent_text, dirents_text, padding_of};
 ghost use Rattle.fuse_replies.specs.Reading.{front_text, Finds, IsFront, Reads, SplitsName, Strips};
 ghost use Rattle.fuse_replies.specs.Replies.{IsDirent};
@@ -31,14 +33,21 @@ pub(crate) fn padding(len: u32) -> u32
     (8 - len % 8) % 8
 }
 
+/// How many bytes the entry of a name takes in a reply to READDIR: 24 and those of the name, up to a multiple of 8, as
+/// `FUSE_DIRENT_SIZE` of Linux `fuse.h` has it. So whoever fills a reply knows which entries still fit.
+pub fn dirent_len(name: &str) -> u64
+    ensures { result ≡ layouts.dirent_len name.now }
+{
+    24 + (name.len() as u64).div_ceil(8) * 8
+}
+
 /// How many bytes a dirent has in a frame.
 #[tactic(auto, using(crate::proofs::TextLemmas::dirent_lengths))]
-pub(crate) fn dirent_len(dirent: &Dirent) -> u32
+fn entry_len(dirent: &Dirent) -> u32
     requires { length (dirent_text dirent.now) < 2 ^ 32 }
     ensures { result ≡ length (dirent_text dirent.now) }
 {
-    let name = dirent.name.as_str().len() as u32;
-    24 + name + padding(name)
+    dirent_len(dirent.name.as_str()) as u32
 }
 
 /// How many bytes the dirents have in a frame, all together.
@@ -48,12 +57,12 @@ pub(crate) fn dirents_len(dirents: &[Dirent]) -> u32
 {
     let mut len = 0;
     for dirent in dirents {
-        len += dirent_len(dirent);
+        len += entry_len(dirent);
     }
     len
 }
 
-// Appends up to eight zero bytes.
+/// Appends up to eight zero bytes.
 fn put_zeros(out: &mut Vec<u8>, count: u32) -> Result<(), AllocError>
     requires { count ≤ 8 }
     ensures ok { OnOk result (out.new.items ≡ out.old.items ++ replicate count 0) }
@@ -88,7 +97,7 @@ pub(crate) fn put_dirents(out: &mut Vec<u8>, dirents: &[Dirent]) -> Result<(), A
     Ok(())
 }
 
-// The fields of a `fuse_dirent` whose first 24 bytes these are.
+/// The fields of a `fuse_dirent` whose first 24 bytes these are.
 fn front_of(bytes: &[u8]) -> Option<DirentFront>
     ensures { Reads front_text IsFront bytes.now result }
 {
@@ -104,7 +113,7 @@ fn front_of(bytes: &[u8]) -> Option<DirentFront>
     Some(DirentFront { off, namelen, kind })
 }
 
-// A name of this length at the front of the bytes, and what follows its zeros.
+/// A name of this length at the front of the bytes, and what follows its zeros.
 fn split_name(bytes: &[u8], len: u32) -> Option<(&[u8], &[u8])>
     ensures { SplitsName bytes.now len result }
 {
@@ -116,7 +125,7 @@ fn split_name(bytes: &[u8], len: u32) -> Option<(&[u8], &[u8])>
     Some((name, rest))
 }
 
-// What follows up to eight zero bytes, where the bytes begin with them.
+/// What follows up to eight zero bytes, where the bytes begin with them.
 fn strip_zeros(bytes: &[u8], count: u32) -> Option<&[u8]>
     requires { count ≤ 8 }
     ensures { Strips bytes.now (replicate count 0) result }
@@ -125,7 +134,7 @@ fn strip_zeros(bytes: &[u8], count: u32) -> Option<&[u8]>
     bytes.strip_prefix(&zeros[..count as usize])
 }
 
-// The text of these bytes, where they are UTF-8.
+/// The text of these bytes, where they are UTF-8.
 fn text_of(alloc: Global, bytes: &[u8]) -> Result<Text, ReplyFault>
     ensures { Finds result (λ text. (text ≡ bytes.now) × IsUtf8 bytes.now) (¬ (IsUtf8 bytes.now)) }
 {
@@ -135,7 +144,7 @@ fn text_of(alloc: Global, bytes: &[u8]) -> Result<Text, ReplyFault>
     }
 }
 
-// The dirent at the front of the bytes, and what follows it.
+/// The dirent at the front of the bytes, and what follows it.
 fn next_dirent(alloc: Global, bytes: &[u8]) -> Result<(Dirent, &[u8]), ReplyFault>
     ensures { Finds result (λ found. (bytes.now ≡ dirent_text found.0 ++ found.1.now) × IsDirent found.0) ((dirent : DirentValue) (rest : List ℕ) → IsDirent dirent → bytes.now ≢ dirent_text dirent ++ rest) }
 {

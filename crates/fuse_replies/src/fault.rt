@@ -1,3 +1,4 @@
+//! Why the frame of a reply is not read.
 ghost use Rattle.std.specs.Prelude.{◌≡◌};
 ghost use Rattle.fuse_replies.specs.declared.fault.ReplyFault.TheVariants as faults;
 

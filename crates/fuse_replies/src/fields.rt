@@ -1,38 +1,40 @@
+//! Runs of little-endian fields of one width: appended, and taken off the front of bytes.
 ghost use Rattle.std.specs.Prelude.{◌≡◌, ◌++◌, ◌↔◌, OnOk, IsTrue};
 ghost use Rattle.fuse_replies.specs.Layouts.{u16s, u32s, u64s};
 ghost use Rattle.fuse_replies.specs.Reading.{Strips};
 
+use fuse_head::{append_u16, append_u32, append_u64};
 use std::alloc::AllocError;
 
 /// Appends fields of two bytes.
-#[tactic(auto, unfolding(crate::specs::Layouts::u16s, fuse_head::specs::Little::u16_bytes))]
+#[tactic(auto, unfolding(crate::specs::Layouts::u16s))]
 pub(crate) fn put_u16s(out: &mut Vec<u8>, fields: &[u16]) -> Result<(), AllocError>
     ensures ok { OnOk result (out.new.items ≡ out.old.items ++ u16s fields.now) }
 {
     for field in fields {
-        out.extend_from_slice(&field.to_le_bytes())?;
+        append_u16(out, *field)?;
     }
     Ok(())
 }
 
 /// Appends fields of four bytes.
-#[tactic(auto, unfolding(crate::specs::Layouts::u32s, fuse_head::specs::Little::u32_bytes))]
+#[tactic(auto, unfolding(crate::specs::Layouts::u32s))]
 pub(crate) fn put_u32s(out: &mut Vec<u8>, fields: &[u32]) -> Result<(), AllocError>
     ensures ok { OnOk result (out.new.items ≡ out.old.items ++ u32s fields.now) }
 {
     for field in fields {
-        out.extend_from_slice(&field.to_le_bytes())?;
+        append_u32(out, *field)?;
     }
     Ok(())
 }
 
 /// Appends fields of eight bytes.
-#[tactic(auto, unfolding(crate::specs::Layouts::u64s, fuse_head::specs::Little::u64_bytes))]
+#[tactic(auto, unfolding(crate::specs::Layouts::u64s))]
 pub(crate) fn put_u64s(out: &mut Vec<u8>, fields: &[u64]) -> Result<(), AllocError>
     ensures ok { OnOk result (out.new.items ≡ out.old.items ++ u64s fields.now) }
 {
     for field in fields {
-        out.extend_from_slice(&field.to_le_bytes())?;
+        append_u64(out, *field)?;
     }
     Ok(())
 }

@@ -1,3 +1,4 @@
+//! The answer to INIT: written and read.
 ghost use Rattle.std.specs.Prelude.{◌≡◌, ◌<◌, ◌≤◌, ◌^◌, ◌++◌, ◌↔◌, length, IsTrue, OnOk};
 ghost use Rattle.fuse_replies.specs.Layouts.{init_text, waits_text};
 ghost use Rattle.fuse_replies.specs.Reading.{numbers_text, AreNumbers, Reads, Strips};
@@ -18,7 +19,7 @@ pub(crate) fn put_init(out: &mut Vec<u8>, readahead: u32, flags: u32) -> Result<
     put_u32s(out, &[0; 8])
 }
 
-// What follows a `fuse_init_out` with these numbers, where the bytes begin with it.
+/// What follows a `fuse_init_out` with these numbers, where the bytes begin with it.
 fn after_init(body: &[u8], readahead: u32, flags: u32) -> Option<&[u8]>
     ensures { Strips body.now (init_text readahead flags) result }
 {
@@ -42,7 +43,7 @@ pub(crate) fn init_of(body: &[u8]) -> Option<(u32, u32)>
     Some((readahead, flags))
 }
 
-// The fields of the `fuse_init_out` of a kernel that is to send INIT again.
+/// The fields of the `fuse_init_out` of a kernel that is to send INIT again.
 const WAITS: [u32; 16] = [7, 31, 0, 0, 0, 0, 0, 0, 0, 0, 0, 0, 0, 0, 0, 0];
 
 /// Appends the `fuse_init_out` of a kernel that is to send INIT again.

@@ -3,6 +3,7 @@
 
 mod bodies;
 mod dirents;
+pub mod errno;
 mod fault;
 mod fields;
 mod init;
@@ -12,6 +13,7 @@ mod reply;
 mod tests;
 mod write;
 
+pub use dirents::dirent_len;
 pub use fault::ReplyFault;
 pub use read::read_reply;
 pub use reply::{AttrOut, Dirent, EntryOut, Reply, ReplyKind};

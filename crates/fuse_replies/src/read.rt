@@ -1,20 +1,21 @@
-ghost use Rattle.std.specs.Prelude.{◌≡◌, ◌<◌, ◌+◌, ◌^◌, ℕ, length, if◌then◌else◌, IfOk, Ok, Err};
+//! Frames of replies, read.
+ghost use Rattle.std.specs.Prelude.{◌≡◌, ◌≢◌, ◌<◌, ◌+◌, ◌^◌, ℕ, length, if◌then◌else◌, IfOk, Ok, Err};
 ghost use Rattle.fuse_replies.specs.declared.fault.ReplyFault.TheVariants as faults;
 ghost use Rattle.fuse_replies.specs.declared.reply.Reply.{Reply as ReplyValue};
 ghost use Rattle.fuse_replies.specs.declared.reply.ReplyKind.TheVariants as kinds;
 ghost use Rattle.fuse_replies.specs.Reading.{ReadsBody, SplitsHead};
-ghost use Rattle.fuse_replies.specs.Replies.{plain, GivesBack, IsFrame};
+ghost use Rattle.fuse_replies.specs.Replies.{without_spare, GivesBack, HasPayload, IsFrame};
 
 use crate::bodies::{attr_out_of, created_of, entry_of, is_statfs, open_of, written_of};
 use crate::dirents::dirents_of;
 use crate::fault::ReplyFault;
 use crate::init::{init_of, is_waits};
 use crate::reply::{Reply, ReplyKind};
-use fuse_head::{u32_at, u64_at, write_out_head};
+use fuse_head::{OutHead, out_head_of, write_out_head};
 use io_ports::{Bytes, Row};
 use std::alloc::Global;
 
-// The greatest errno that a kernel takes from a reply.
+/// The greatest errno that a kernel takes from a reply.
 const LAST_ERRNO: u32 = 511;
 
 /// Reads the frame of a reply to a request whose replies are of this kind: its unique and the reply. A reply that
@@ -24,16 +25,19 @@ const LAST_ERRNO: u32 = 511;
 /// `Malformed` comes exactly where the bytes are not what [`write_reply`](crate::write_reply) writes of a reply of
 /// the kind or of an error: a length is wrong, a field that is always the same has another value, padding isn't
 /// zero, an errno isn't 1 to 511, a dirent isn't whole or its name isn't UTF-8. `NoMemory` where memory for the
-/// reply was refused.
+/// reply was refused, which comes only for a kind that has a payload: `Content`, `Target` and `Dirents`.
 pub fn read_reply(alloc: Global, kind: ReplyKind, bytes: &[u8]) -> Result<(u64, Reply), ReplyFault>
     // What is read is a reply whose frame the bytes are.
-    ensures ok { IfOk result (λ read. IsFrame kind read.0 (plain read.1) bytes.now) }
+    ensures ok { IfOk result (λ read. IsFrame kind read.0 (without_spare read.1) bytes.now) }
 
     // The frame of a reply gives the reply back.
     ensures again { (unique : ℕ) (reply : ReplyValue) → IsFrame kind unique reply bytes.now → GivesBack unique reply result }
 
     // Bytes are malformed only where they are the frame of no reply.
     ensures malformed { result ≡ Err faults.Malformed → (unique : ℕ) (reply : ReplyValue) → IsFrame kind unique reply bytes.now → ⊥ }
+
+    // Only a payload takes memory.
+    ensures memory { result ≡ Err faults.NoMemory → HasPayload kind }
 {
     let Some((errno, unique, body)) = split_head(bytes) else {
         return Err(ReplyFault::Malformed);
@@ -51,7 +55,7 @@ pub fn read_reply(alloc: Global, kind: ReplyKind, bytes: &[u8]) -> Result<(u64, 
     Ok((unique, Reply::Error(errno)))
 }
 
-// The errno, the unique and the body of a frame, where its head is one of a reply and has its length.
+/// The errno, the unique and the body of a frame, where its head is one of a reply and has its length.
 fn split_head(bytes: &[u8]) -> Option<(u32, u64, &[u8])>
     ensures { SplitsHead bytes.now result }
 {
@@ -61,18 +65,18 @@ fn split_head(bytes: &[u8]) -> Option<(u32, u64, &[u8])>
     if len < 16 {
         return None;
     }
-    let errno = u32_at(bytes, 4).wrapping_neg();
-    let unique = u64_at(bytes, 8);
+    let OutHead { errno, unique, .. } = out_head_of(bytes);
     let mut head = [0; 16];
     write_out_head(len, errno, unique, &mut head);
     let body = bytes.strip_prefix(&head)?;
     Some((errno, unique, body))
 }
 
-// The reply of a kind whose body the bytes are.
+/// The reply of a kind whose body the bytes are.
 fn read_body(alloc: Global, kind: ReplyKind, body: &[u8]) -> Result<Reply, ReplyFault>
     requires { 16 + length body.now < 2 ^ 32 }
-    ensures { ReadsBody kind body.now result }
+    ensures read { ReadsBody kind body.now result }
+    ensures memory { result ≡ Err faults.NoMemory → HasPayload kind }
 {
     let malformed = ReplyFault::Malformed;
     match kind {
@@ -93,7 +97,7 @@ fn read_body(alloc: Global, kind: ReplyKind, body: &[u8]) -> Result<Reply, Reply
     }
 }
 
-// A reply whose body is always the same, where the bytes are that.
+/// A reply whose body is always the same, where the bytes are that.
 fn fixed(is: bool, reply: Reply) -> Result<Reply, ReplyFault>
     ensures { result ≡ (if is then Ok reply else Err faults.Malformed) }
 {
@@ -104,9 +108,10 @@ fn fixed(is: bool, reply: Reply) -> Result<Reply, ReplyFault>
     }
 }
 
-// The answer to INIT whose body the bytes are.
+/// The answer to INIT whose body the bytes are.
 fn read_init(body: &[u8]) -> Result<Reply, ReplyFault>
-    ensures { ReadsBody kinds.InitDone body.now result }
+    ensures read { ReadsBody kinds.InitDone body.now result }
+    ensures memory { result ≢ Err faults.NoMemory }
 {
     if is_waits(body) {
         return Ok(Reply::InitDone {

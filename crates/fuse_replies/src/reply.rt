@@ -1,3 +1,4 @@
+//! Replies as values.
 use io_ports::{Bytes, Row, Text};
 
 /// The attributes of a node, as far as they differ from node to node. In a frame, `struct fuse_attr` of Linux

@@ -1,4 +1,5 @@
-ghost use Rattle.fuse_replies.specs.Replies.{plain, IsSendable};
+//! What no clause says of replies: frames from outside, and that each is written and read with ample memory.
+ghost use Rattle.fuse_replies.specs.Replies.{without_spare, IsSendable};
 
 use crate::{AttrOut, Dirent, EntryOut, Reply, ReplyFault, ReplyKind, read_reply, write_reply};
 use io_ports::{Bytes, Row, Text};
@@ -101,7 +102,7 @@ fn both_ways(
     reply: &Reply,
     frame: &[u8],
 ) -> Result<(), Fail>
-    requires { IsSendable (plain reply.now) }
+    requires { IsSendable (without_spare reply.now) }
 {
     assert_eq!(rt; write_reply(alloc, unique, reply)?.as_slice(), frame);
     let (told, read) = read_reply(alloc, kind, frame)?;

@@ -1,6 +1,7 @@
-ghost use Rattle.std.specs.Prelude.{◌≡◌, ◌+◌, ◌++◌, length, IfOk, OnOk};
+//! Frames of replies, written.
+ghost use Rattle.std.specs.Prelude.{◌≡◌, ◌+◌, ◌++◌, length, IfOk, IsOk, OnOk};
 ghost use Rattle.fuse_head.specs.Head.{out_head};
-ghost use Rattle.fuse_replies.specs.Replies.{body_of, errno_of, frame_of, plain, IsSendable};
+ghost use Rattle.fuse_replies.specs.Replies.{body_of, errno_of, frame_of, without_spare, IsSendable};
 
 use crate::bodies::{put_attr_out, put_entry, put_open, put_statfs, put_written};
 use crate::dirents::{dirents_len, put_dirents};
@@ -18,11 +19,12 @@ const HEAD_LEN: u32 = 16;
 ///
 /// An errno has to be 1 to 511, an `InitDone` that waits has to have the numbers 0, and the frame of a `Content`, a
 /// `Target` or `Dirents` has to be at most 4,294,967,295 bytes long. `NoMemory` where memory for the frame, which
-/// is asked for at once, was refused.
+/// is asked for at once, was refused; never for `Silent`.
 #[tactic(auto, using(crate::proofs::ReplyLemmas::silent_frames))]
 pub fn write_reply(alloc: Global, unique: u64, reply: &Reply) -> Result<Bytes, NoMemory>
-    requires { IsSendable (plain reply.now) }
-    ensures ok { IfOk result (λ bytes. bytes ≡ frame_of unique (plain reply.now)) }
+    requires { IsSendable (without_spare reply.now) }
+    ensures ok { IfOk result (λ bytes. bytes ≡ frame_of unique (without_spare reply.now)) }
+    ensures silent { reply.now ≡ Reply.Silent → IsOk result }
 {
     if let Reply::Silent = reply {
         return Ok(Bytes::from_vec(Vec::new(alloc)));
@@ -34,7 +36,7 @@ pub fn write_reply(alloc: Global, unique: u64, reply: &Reply) -> Result<Bytes, N
     Ok(Bytes::from_vec(out))
 }
 
-// Appends the head of a frame.
+/// Appends the head of a frame.
 fn put_head(out: &mut Vec<u8>, len: u32, errno: u32, unique: u64) -> Result<(), AllocError>
     ensures ok { OnOk result (out.new.items ≡ out.old.items ++ out_head len errno unique) }
 {
@@ -43,9 +45,9 @@ fn put_head(out: &mut Vec<u8>, len: u32, errno: u32, unique: u64) -> Result<(), 
     out.extend_from_slice(&head)
 }
 
-// The errno of a reply, 0 where it is no error.
+/// The errno of a reply, 0 where it is no error.
 fn errno(reply: &Reply) -> u32
-    ensures { result ≡ errno_of (plain reply.now) }
+    ensures { result ≡ errno_of (without_spare reply.now) }
 {
     match reply {
         Reply::Error(errno) => *errno,
@@ -53,11 +55,11 @@ fn errno(reply: &Reply) -> u32
     }
 }
 
-// How many bytes follow the head.
+/// How many bytes follow the head.
 #[tactic(auto, using(crate::proofs::ReplyLemmas::body_lengths), unfolding(crate::specs::Replies::body_of))]
 fn body_len(reply: &Reply) -> u32
-    requires { IsSendable (plain reply.now) }
-    ensures { result ≡ length (body_of (plain reply.now)) }
+    requires { IsSendable (without_spare reply.now) }
+    ensures { result ≡ length (body_of (without_spare reply.now)) }
 {
     match reply {
         Reply::Error(_) | Reply::Empty | Reply::Silent => 0,
@@ -73,11 +75,11 @@ fn body_len(reply: &Reply) -> u32
     }
 }
 
-// Appends what follows the head.
+/// Appends what follows the head.
 #[tactic(auto, unfolding(crate::specs::Replies::body_of))]
 fn put_body(out: &mut Vec<u8>, reply: &Reply) -> Result<(), AllocError>
-    requires { IsSendable (plain reply.now) }
-    ensures ok { OnOk result (out.new.items ≡ out.old.items ++ body_of (plain reply.now)) }
+    requires { IsSendable (without_spare reply.now) }
+    ensures ok { OnOk result (out.new.items ≡ out.old.items ++ body_of (without_spare reply.now)) }
 {
     match reply {
         Reply::Error(_) | Reply::Empty | Reply::Silent => Ok(()),

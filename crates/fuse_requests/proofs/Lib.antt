@@ -1,4 +1,5 @@
 -- Laws of the texts of requests: each part is read back, and so is the whole.
+pub mod PartLemmas
 pub mod PairLemmas
 pub mod PairTexts
 pub mod FieldTexts

@@ -6,7 +6,7 @@ use Rattle.fuse_requests.specs.declared.request.Request.TheVariants.{Lookup, For
 use Rattle.fuse_requests.specs.Layout.{fields_text}
 use Rattle.fuse_requests.specs.Nodes.{read_in}
 use Rattle.fuse_requests.specs.Mounts.{batch_forget_in}
-use Rattle.fuse_requests.specs.Grammar.{layout_of, plain, read_as, read_frame}
+use Rattle.fuse_requests.specs.Grammar.{layout_of, without_spare, read_as, read_frame}
 use Rattle.fuse_requests.specs.Text.{body_text, pairs_text, request_text, spelling, FieldsFit, HasNames, InRange, IsWritable, PairsFit}
 use Rattle.fuse_requests.proofs.FrameTexts.{read_frame-text}
 use Rattle.fuse_requests.proofs.PairTexts.{length-pairs_text}
@@ -19,7 +19,7 @@ content_fits : (fixed content : List ℕ) → 40 + length (fixed ++ content) ≤
 content_fits fixed content fits = omega (arith, length-append fixed content)
 
 body_read : (request : Request) → HasNames request → 40 + length (body_text request) ≤ 135168 → FieldsFit request → PairsFit request
-    → read_as (spelling request).opcode (layout_of (spelling request).opcode (spelling request).node) (body_text request) ≡ Ok (plain request)
+    → read_as (spelling request).opcode (layout_of (spelling request).opcode (spelling request).node) (body_text request) ≡ Ok (without_spare request)
 body_read (Lookup node name) is long fit pairs = lookup-text node name is
 body_read (Forget node count) is long fit pairs = forget-text node count fit
 body_read (Getattr node) is long fit pairs = getattr-text node
@@ -54,6 +54,6 @@ body_read (Rename2 node newdir flags name newname) is long fit pairs = rename2-t
 body_read (Unknown opcode) is long fit pairs = rw is refl
 
 pub read-request_text : (unique : ℕ) (request : Request) → unique < 2 ^ 64 → IsWritable request → InRange request
-    → read_frame (request_text unique request) ≡ Ok (plain request)
+    → read_frame (request_text unique request) ≡ Ok (without_spare request)
 read-request_text unique request unique_fits is range =
     read_frame-text unique request unique_fits is range ∙ body_read request is.names is.fits range.fields range.pairs

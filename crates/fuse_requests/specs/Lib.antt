@@ -3,6 +3,7 @@ pub mod Parts
 pub mod Layout
 pub mod Naming
 pub mod Nodes
+pub mod Opcodes
 pub mod Mounts
 pub mod Grammar
 pub mod Text

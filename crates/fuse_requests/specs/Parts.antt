@@ -53,15 +53,28 @@ pairs_of (suc count) bytes = record { node = u64_at bytes 0; count = u64_at byte
 abbrev pub last_pairs : ℕ → List ℕ → Result (List Forgotten) BodyFault
 last_pairs count bytes = if length bytes == 16 * count then Ok (pairs_of count bytes) else Err BadCount
 
--- What a fault that a call returned says of what reading gives: that fault, unless memory ran out.
-abbrev pub Refuses : {A : Type 0} → BodyFault → Result A BodyFault → Type 0
-Refuses NoMemory read = Unit {0}
-Refuses Short read = read ≡ Err Short
-Refuses NoZeroByte read = read ≡ Err NoZeroByte
-Refuses LongTail read = read ≡ Err LongTail
-Refuses BadCount read = read ≡ Err BadCount
+-- What is read is there, and of this kind.
+abbrev pub IsReadAs : {A : Type 0} → (A → Type 0) → Result A BodyFault → Type 0
+IsReadAs P (Ok x) = P x
+IsReadAs P (Err fault) = ⊥
 
--- What a call returned, seen by view, is what reading gives, unless memory ran out.
-abbrev pub Gives : {X A : Type 0} → (X → A) → Result X BodyFault → Result A BodyFault → Type 0
-Gives view (Ok x) read = read ≡ Ok (view x)
-Gives view (Err fault) read = Refuses fault read
+-- What a fault that a call returned says of what reading gives: that fault; and where memory ran out, a value of the
+-- kind that takes memory.
+abbrev pub Refuses : {A : Type 0} → (A → Type 0) → BodyFault → Result A BodyFault → Type 0
+Refuses takes NoMemory read = IsReadAs takes read
+Refuses takes Short read = read ≡ Err Short
+Refuses takes NoZeroByte read = read ≡ Err NoZeroByte
+Refuses takes LongTail read = read ≡ Err LongTail
+Refuses takes BadCount read = read ≡ Err BadCount
+
+-- What a call returned, seen by view, is what reading gives; memory may run out for a value of the kind that takes it.
+abbrev pub Gives : {X A : Type 0} → (X → A) → (A → Type 0) → Result X BodyFault → Result A BodyFault → Type 0
+Gives view takes (Ok x) read = read ≡ Ok (view x)
+Gives view takes (Err fault) read = Refuses takes fault read
+
+-- of a value for which no memory is taken, and of one for which it always is
+abbrev pub never : {A : Type 0} → A → Type 0
+never x = ⊥
+
+abbrev pub always : {A : Type 0} → A → Type 0
+always x = Unit {0}

@@ -2,7 +2,7 @@
 -- padding, are zero.
 use Rattle.std.specs.Prelude.{◌≡◌, ◌+◌, ◌<◌, ◌≤◌, ◌^◌, ◌++◌, ◌∷◌, [], ℕ, List, None, length, false}
 use Rattle.std.specs.List.{flat_map, list_any, AllByRecursion}
-use Rattle.fuse_head.specs.Head.{in_head_text}
+use Rattle.fuse_head.specs.Head.{in_head_text, longest_frame}
 use Rattle.fuse_head.specs.Little.{u64_bytes}
 use Rattle.fuse_head.specs.declared.in_head.InHead.{InHead}
 use Rattle.fuse_requests.specs.declared.request.Forgotten.{Forgotten}
@@ -12,6 +12,7 @@ use Rattle.fuse_requests.specs.Layout.{Field, fields_text}
 use Rattle.fuse_requests.specs.Naming.{mknod_in, mkdir_in, rename_in, create_in, rename2_in}
 use Rattle.fuse_requests.specs.Nodes.{getattr_in, setattr_in, open_in, read_in, release_in, fsync_in, flush_in}
 use Rattle.fuse_requests.specs.Mounts.{forget_in, init_in, interrupt_in, batch_forget_in}
+use Rattle.fuse_requests.specs.Opcodes as opcodes
 use Rattle.fuse_requests.specs.Parts.{is_zero}
 use Rattle.fuse_requests.specs.Grammar.{layout_of}
 
@@ -38,34 +39,34 @@ spelled opcode node fixed tail = record { opcode = opcode; node = node; fixed = 
 
 -- the table: a request that speaks of no node has 0 in its place
 abbrev pub spelling : Request → Spelling
-spelling (Lookup node name) = spelled 1 node [] (name_text name)
-spelling (Forget node count) = spelled 2 node (forget_in count) []
-spelling (Getattr node) = spelled 3 node getattr_in []
-spelling (Setattr node valid size mtime nanos) = spelled 4 node (setattr_in valid size mtime nanos) []
-spelling (Readlink node) = spelled 5 node [] []
-spelling (Symlink node name target) = spelled 6 node [] (name_text name ++ name_text target)
-spelling (Mknod node mode name) = spelled 8 node (mknod_in mode) (name_text name)
-spelling (Mkdir node name) = spelled 9 node mkdir_in (name_text name)
-spelling (Unlink node name) = spelled 10 node [] (name_text name)
-spelling (Rmdir node name) = spelled 11 node [] (name_text name)
-spelling (Rename node newdir name newname) = spelled 12 node (rename_in newdir) (name_text name ++ name_text newname)
-spelling (Opening node flags) = spelled 14 node (open_in flags) []
-spelling (Read node fh first size) = spelled 15 node (read_in fh first size) []
-spelling (Write node fh first content) = spelled 16 node (read_in fh first (length content)) content
-spelling Statfs = spelled 17 0 [] []
-spelling (Release node fh) = spelled 18 node (release_in fh) []
-spelling (Fsync node fh) = spelled 20 node (fsync_in fh) []
-spelling (Flush node fh) = spelled 25 node (flush_in fh) []
-spelling (Init major minor readahead flags) = spelled 26 0 (init_in major minor readahead flags) []
-spelling (Opendir node) = spelled 27 node (open_in 0) []
-spelling (Readdir node fh first size) = spelled 28 node (read_in fh first size) []
-spelling (Releasedir node fh) = spelled 29 node (release_in fh) []
-spelling (Fsyncdir node fh) = spelled 30 node (fsync_in fh) []
-spelling (Create node name) = spelled 35 node create_in (name_text name)
-spelling Interrupt = spelled 36 0 interrupt_in []
-spelling Destroy = spelled 38 0 [] []
-spelling (BatchForget pairs) = spelled 42 0 (batch_forget_in (length pairs.items)) (pairs_text pairs.items)
-spelling (Rename2 node newdir flags name newname) = spelled 45 node (rename2_in newdir flags) (name_text name ++ name_text newname)
+spelling (Lookup node name) = spelled opcodes.lookup node [] (name_text name)
+spelling (Forget node count) = spelled opcodes.forget node (forget_in count) []
+spelling (Getattr node) = spelled opcodes.getattr node getattr_in []
+spelling (Setattr node valid size mtime nanos) = spelled opcodes.setattr node (setattr_in valid size mtime nanos) []
+spelling (Readlink node) = spelled opcodes.readlink node [] []
+spelling (Symlink node name target) = spelled opcodes.symlink node [] (name_text name ++ name_text target)
+spelling (Mknod node mode name) = spelled opcodes.mknod node (mknod_in mode) (name_text name)
+spelling (Mkdir node name) = spelled opcodes.mkdir node mkdir_in (name_text name)
+spelling (Unlink node name) = spelled opcodes.unlink node [] (name_text name)
+spelling (Rmdir node name) = spelled opcodes.rmdir node [] (name_text name)
+spelling (Rename node newdir name newname) = spelled opcodes.rename node (rename_in newdir) (name_text name ++ name_text newname)
+spelling (Opening node flags) = spelled opcodes.opening node (open_in flags) []
+spelling (Read node fh first size) = spelled opcodes.reading node (read_in fh first size) []
+spelling (Write node fh first content) = spelled opcodes.writing node (read_in fh first (length content)) content
+spelling Statfs = spelled opcodes.statfs 0 [] []
+spelling (Release node fh) = spelled opcodes.release node (release_in fh) []
+spelling (Fsync node fh) = spelled opcodes.fsync node (fsync_in fh) []
+spelling (Flush node fh) = spelled opcodes.flush node (flush_in fh) []
+spelling (Init major minor readahead flags) = spelled opcodes.init 0 (init_in major minor readahead flags) []
+spelling (Opendir node) = spelled opcodes.opendir node (open_in 0) []
+spelling (Readdir node fh first size) = spelled opcodes.readdir node (read_in fh first size) []
+spelling (Releasedir node fh) = spelled opcodes.releasedir node (release_in fh) []
+spelling (Fsyncdir node fh) = spelled opcodes.fsyncdir node (fsync_in fh) []
+spelling (Create node name) = spelled opcodes.create node create_in (name_text name)
+spelling Interrupt = spelled opcodes.interrupt 0 interrupt_in []
+spelling Destroy = spelled opcodes.destroy 0 [] []
+spelling (BatchForget pairs) = spelled opcodes.batch_forget 0 (batch_forget_in (length pairs.items)) (pairs_text pairs.items)
+spelling (Rename2 node newdir flags name newname) = spelled opcodes.rename2 node (rename2_in newdir flags) (name_text name ++ name_text newname)
 spelling (Unknown opcode) = spelled opcode 0 [] []
 
 -- the text of a request's body
@@ -109,7 +110,7 @@ HasNames _ = Unit {0}
 -- what has a text: a request with such names, whose frame isn't longer than the longest
 pub record IsWritable (request : Request) : Type 0 where
   pub names : HasNames request
-  pub fits : 40 + length (body_text request) ≤ 135168
+  pub fits : 40 + length (body_text request) ≤ longest_frame
 
 -- a pair's numbers lie in their types
 abbrev pub PairFits : Forgotten → Type 0

@@ -1,3 +1,4 @@
+//! Why the body of a request is not read.
 use io_ports::NoMemory;
 
 /// Why the body of a request wasn't read: the first fault in the order of reading, or that memory for the

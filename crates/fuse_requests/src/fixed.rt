@@ -1,4 +1,6 @@
+//! The fixed part of each request, appended.
 ghost use Rattle.std.specs.Prelude.{◌≡◌, ◌≤◌, ◌++◌, length, OnOk};
+ghost use Rattle.fuse_head.specs.Head.{longest_frame};
 ghost use Rattle.fuse_requests.specs.Layout.{fields_text};
 ghost use Rattle.fuse_requests.specs.Text.{spelling, FieldsFit};
 ghost use Rattle.fuse_requests.specs.Fields.{FixedOfNode, FixedOfHandle};
@@ -10,7 +12,7 @@ use io_ports::NoMemory;
 
 /// Appends the fixed part of a request's body.
 pub(crate) fn push_fixed(out: &mut Vec<u8>, request: &Request) -> Result<(), NoMemory>
-    requires { length (spelling request.now).tail ≤ 135_168 }
+    requires { length (spelling request.now).tail ≤ longest_frame }
     ensures ok { OnOk result (out.new.items ≡ out.old.items ++ fields_text (spelling request.now).fixed) }
     ensures fields { FieldsFit request.now }
 {
@@ -39,7 +41,7 @@ pub(crate) fn push_fixed(out: &mut Vec<u8>, request: &Request) -> Result<(), NoM
 }
 
 fn push_fixed_of_node(out: &mut Vec<u8>, request: &Request) -> Result<(), NoMemory>
-    requires room { length (spelling request.now).tail ≤ 135_168 }
+    requires room { length (spelling request.now).tail ≤ longest_frame }
     requires node { FixedOfNode request.now }
     ensures ok { OnOk result (out.new.items ≡ out.old.items ++ fields_text (spelling request.now).fixed) }
     ensures fields { FieldsFit request.now }
@@ -60,7 +62,7 @@ fn push_fixed_of_node(out: &mut Vec<u8>, request: &Request) -> Result<(), NoMemo
 }
 
 fn push_fixed_of_handle(out: &mut Vec<u8>, request: &Request) -> Result<(), NoMemory>
-    requires room { length (spelling request.now).tail ≤ 135_168 }
+    requires room { length (spelling request.now).tail ≤ longest_frame }
     requires handle { FixedOfHandle request.now }
     ensures ok { OnOk result (out.new.items ≡ out.old.items ++ fields_text (spelling request.now).fixed) }
     ensures fields { FieldsFit request.now }

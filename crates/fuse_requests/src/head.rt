@@ -1,3 +1,4 @@
+//! The head of a request's frame, appended.
 ghost use Rattle.std.specs.Prelude.{◌≡◌, ◌<◌, ◌^◌, ◌++◌, OnOk};
 ghost use Rattle.fuse_head.specs.Head.{in_head_text};
 ghost use Rattle.fuse_requests.specs.Text.{head_of, spelling};

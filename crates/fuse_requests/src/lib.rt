@@ -1,5 +1,5 @@
 //! Requests of the FUSE wire as values, for whoever reads or writes their frames.
-#![tactic(auto)]
+#![tactic(auto, using(crate::proofs::PartLemmas::parts))]
 
 mod fault;
 mod fields;
@@ -8,7 +8,7 @@ mod head;
 mod mounts;
 mod naming;
 mod nodes;
-mod opcode;
+pub mod opcode;
 mod parts;
 mod reading;
 mod request;

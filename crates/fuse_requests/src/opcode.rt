@@ -1,56 +1,85 @@
-// The opcodes of `enum fuse_opcode` in Linux `fuse.h` 7.31 whose bodies are read.
-pub(crate) const LOOKUP: u32 = 1;
+//! The opcodes of `enum fuse_opcode` in Linux `fuse.h` 7.31 whose bodies are read.
 
-pub(crate) const FORGET: u32 = 2;
+/// FUSE_LOOKUP.
+pub const LOOKUP: u32 = 1;
 
-pub(crate) const GETATTR: u32 = 3;
+/// FUSE_FORGET.
+pub const FORGET: u32 = 2;
 
-pub(crate) const SETATTR: u32 = 4;
+/// FUSE_GETATTR.
+pub const GETATTR: u32 = 3;
 
-pub(crate) const READLINK: u32 = 5;
+/// FUSE_SETATTR.
+pub const SETATTR: u32 = 4;
 
-pub(crate) const SYMLINK: u32 = 6;
+/// FUSE_READLINK.
+pub const READLINK: u32 = 5;
 
-pub(crate) const MKNOD: u32 = 8;
+/// FUSE_SYMLINK.
+pub const SYMLINK: u32 = 6;
 
-pub(crate) const MKDIR: u32 = 9;
+/// FUSE_MKNOD.
+pub const MKNOD: u32 = 8;
 
-pub(crate) const UNLINK: u32 = 10;
+/// FUSE_MKDIR.
+pub const MKDIR: u32 = 9;
 
-pub(crate) const RMDIR: u32 = 11;
+/// FUSE_UNLINK.
+pub const UNLINK: u32 = 10;
 
-pub(crate) const RENAME: u32 = 12;
+/// FUSE_RMDIR.
+pub const RMDIR: u32 = 11;
 
-pub(crate) const OPEN: u32 = 14;
+/// FUSE_RENAME.
+pub const RENAME: u32 = 12;
 
-pub(crate) const READ: u32 = 15;
+/// FUSE_OPEN.
+pub const OPEN: u32 = 14;
 
-pub(crate) const WRITE: u32 = 16;
+/// FUSE_READ.
+pub const READ: u32 = 15;
 
-pub(crate) const STATFS: u32 = 17;
+/// FUSE_WRITE.
+pub const WRITE: u32 = 16;
 
-pub(crate) const RELEASE: u32 = 18;
+/// FUSE_STATFS.
+pub const STATFS: u32 = 17;
 
-pub(crate) const FSYNC: u32 = 20;
+/// FUSE_RELEASE.
+pub const RELEASE: u32 = 18;
 
-pub(crate) const FLUSH: u32 = 25;
+/// FUSE_FSYNC.
+pub const FSYNC: u32 = 20;
 
-pub(crate) const INIT: u32 = 26;
+/// FUSE_FLUSH.
+pub const FLUSH: u32 = 25;
 
-pub(crate) const OPENDIR: u32 = 27;
+/// FUSE_INIT.
+pub const INIT: u32 = 26;
 
-pub(crate) const READDIR: u32 = 28;
+/// FUSE_OPENDIR.
+pub const OPENDIR: u32 = 27;
 
-pub(crate) const RELEASEDIR: u32 = 29;
+/// FUSE_READDIR.
+pub const READDIR: u32 = 28;
 
-pub(crate) const FSYNCDIR: u32 = 30;
+/// FUSE_RELEASEDIR.
+pub const RELEASEDIR: u32 = 29;
 
-pub(crate) const CREATE: u32 = 35;
+/// FUSE_FSYNCDIR.
+pub const FSYNCDIR: u32 = 30;
 
-pub(crate) const INTERRUPT: u32 = 36;
+/// FUSE_CREATE.
+pub const CREATE: u32 = 35;
 
-pub(crate) const DESTROY: u32 = 38;
+/// FUSE_INTERRUPT.
+pub const INTERRUPT: u32 = 36;
 
-pub(crate) const BATCH_FORGET: u32 = 42;
+/// FUSE_DESTROY.
+pub const DESTROY: u32 = 38;
 
-pub(crate) const RENAME2: u32 = 45;
+/// FUSE_BATCH_FORGET.
+pub const BATCH_FORGET: u32 = 42;
+
+/// FUSE_RENAME2.
+pub const RENAME2: u32 = 45;

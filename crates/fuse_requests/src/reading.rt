@@ -1,13 +1,13 @@
+//! Frames of requests, read.
 ghost use Rattle.std.specs.Prelude.{◌≡◌, ◌≢◌, IfOk, IfErr, Ok};
-ghost use Rattle.fuse_head.specs.Head.{IsWholeFrame};
-ghost use Rattle.fuse_head.specs.Little as little;
+ghost use Rattle.fuse_head.specs.Head.{in_head, IsWholeFrame};
 ghost use Rattle.fuse_requests.specs.Parts.{Gives, Refuses};
-ghost use Rattle.fuse_requests.specs.Grammar.{naming, of_node, of_mount, read_as, read_frame, request_of, plain};
+ghost use Rattle.fuse_requests.specs.Grammar.{naming, of_node, of_mount, read_as, read_frame, request_of, without_spare, HasPayload};
 
 use crate::fault::BodyFault;
 use crate::request::Request;
 use crate::{mounts, naming, nodes, opcode};
-use fuse_head::{u32_at, u64_at};
+use fuse_head::head_of;
 use std::alloc::Global;
 
 /// Reads a whole request frame, as `fuse_head::whole_frame` tests it. Fields that Linux `fuse.h` 7.31 has as
@@ -17,30 +17,31 @@ use std::alloc::Global;
 /// A fault is the first one in the order of reading: `Short` where the body has fewer bytes than its fixed
 /// part or, for WRITE, than its size tells; `BadCount` where the bytes after BATCH_FORGET's fixed part aren't
 /// its count times 16; `NoZeroByte` where a name doesn't end; `LongTail` where bytes stand after the last
-/// part. `NoMemory` comes where memory for the request was refused.
+/// part. `NoMemory` comes only where there is no fault, and the request has a name, a content or pairs.
 pub fn read_request(alloc: Global, frame: &[u8]) -> Result<Request, BodyFault>
     requires { IsWholeFrame frame.now }
-    ensures ok { IfOk result (λ request. read_frame frame.now ≡ Ok (plain request)) }
-    ensures err { IfErr result (λ fault. Refuses fault (read_frame frame.now)) }
-    ensures asked { IfOk result (λ request. request_of frame.now ≡ plain request) }
-    ensures unknown { IfErr result (λ fault. fault ≢ BodyFault.NoMemory → request_of frame.now ≡ Request.Unknown (little.u32_at frame.now 4)) }
+    ensures ok { IfOk result (λ request. read_frame frame.now ≡ Ok (without_spare request)) }
+    ensures err { IfErr result (λ fault. Refuses HasPayload fault (read_frame frame.now)) }
+    ensures asked { IfOk result (λ request. request_of frame.now ≡ without_spare request) }
+    ensures unknown { IfErr result (λ fault. fault ≢ BodyFault.NoMemory → request_of frame.now ≡ Request.Unknown (in_head frame.now).opcode) }
 {
     read_whole(alloc, frame)
 }
 
+/// Reads a frame by the table of opcodes.
 #[tactic(auto, unfolding(crate::specs::Grammar::read_frame))]
 fn read_whole(alloc: Global, frame: &[u8]) -> Result<Request, BodyFault>
     requires { IsWholeFrame frame.now }
-    ensures { Gives plain result (read_frame frame.now) }
+    ensures { Gives without_spare HasPayload result (read_frame frame.now) }
 {
-    let opcode = u32_at(frame, 4);
-    let node = u64_at(frame, 16);
+    let head = head_of(frame);
     let (_, body) = frame.split_at(40);
-    read_naming(alloc, opcode, node, body)
+    read_naming(alloc, head.opcode, head.node, body)
 }
 
+/// Reads a body of a request that carries names, or another.
 fn read_naming(alloc: Global, opcode: u32, node: u64, body: &[u8]) -> Result<Request, BodyFault>
-    ensures { Gives plain result (read_as opcode (naming opcode node (of_node opcode node (of_mount opcode node))) body.now) }
+    ensures { Gives without_spare HasPayload result (read_as opcode (naming opcode node (of_node opcode node (of_mount opcode node))) body.now) }
 {
     match opcode {
         opcode::LOOKUP => naming::lookup(alloc, node, body),
@@ -56,8 +57,9 @@ fn read_naming(alloc: Global, opcode: u32, node: u64, body: &[u8]) -> Result<Req
     }
 }
 
+/// Reads a body of a request that speaks of a node or a handle, or another.
 fn read_of_node(alloc: Global, opcode: u32, node: u64, body: &[u8]) -> Result<Request, BodyFault>
-    ensures { Gives plain result (read_as opcode (of_node opcode node (of_mount opcode node)) body.now) }
+    ensures { Gives without_spare HasPayload result (read_as opcode (of_node opcode node (of_mount opcode node)) body.now) }
 {
     match opcode {
         opcode::GETATTR => nodes::getattr(node, body),
@@ -77,8 +79,9 @@ fn read_of_node(alloc: Global, opcode: u32, node: u64, body: &[u8]) -> Result<Re
     }
 }
 
+/// Reads a body of a request that speaks of the whole mount, or none.
 fn read_of_mount(alloc: Global, opcode: u32, node: u64, body: &[u8]) -> Result<Request, BodyFault>
-    ensures { Gives plain result (read_as opcode (of_mount opcode node) body.now) }
+    ensures { Gives without_spare HasPayload result (read_as opcode (of_mount opcode node) body.now) }
 {
     match opcode {
         opcode::FORGET => mounts::forget(node, body),

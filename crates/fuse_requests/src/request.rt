@@ -1,3 +1,4 @@
+//! Requests as values.
 use io_ports::{Bytes, Row};
 
 /// A request of the FUSE wire, by the fields of its frame that a mount looks at. Opcodes, layouts and the

@@ -1,9 +1,11 @@
+//! What stands behind the fixed part of a request's body, appended.
 ghost use Rattle.std.specs.Prelude.{◌≡◌, ◌≤◌, ◌++◌, length, OnOk};
 ghost use Rattle.std.specs.List.{AllByRecursion};
+ghost use Rattle.fuse_head.specs.Head.{longest_frame};
 ghost use Rattle.fuse_requests.specs.Text.{name_text, pairs_text, spelling, PairFits, PairsFit};
 
-use crate::fields::push_long;
 use crate::request::{Forgotten, Request};
+use fuse_head::append_u64;
 use io_ports::{Bytes, NoMemory};
 
 /// Appends what stands behind the fixed part of a request's body.
@@ -33,7 +35,7 @@ pub(crate) fn push_tail(out: &mut Vec<u8>, request: &Request) -> Result<(), NoMe
 
 /// How many bytes stand behind the fixed part of a request's body.
 pub(crate) fn tail_len(request: &Request) -> usize
-    requires { length (spelling request.now).tail ≤ 135_168 }
+    requires { length (spelling request.now).tail ≤ longest_frame }
     ensures { result ≡ length (spelling request.now).tail }
 {
     match request {
@@ -54,7 +56,7 @@ pub(crate) fn tail_len(request: &Request) -> usize
 }
 
 fn names_len(first: &Bytes, second: &Bytes) -> usize
-    requires { length (name_text first.now ++ name_text second.now) ≤ 135_168 }
+    requires { length (name_text first.now ++ name_text second.now) ≤ longest_frame }
     ensures { result ≡ length (name_text first.now ++ name_text second.now) }
 {
     first.as_slice().len() + 1 + second.as_slice().len() + 1
@@ -80,8 +82,8 @@ fn push_pairs(out: &mut Vec<u8>, pairs: &[Forgotten]) -> Result<(), NoMemory>
     ensures pairs { OnOk result (AllByRecursion PairFits pairs.now) }
 {
     for pair in pairs {
-        push_long(out, pair.node)?;
-        push_long(out, pair.count)?;
+        append_u64(out, pair.node)?;
+        append_u64(out, pair.count)?;
     }
     Ok(())
 }

@@ -1,3 +1,4 @@
+//! What no clause says of requests: frames from outside, and that each is read and written with ample memory.
 ghost use Rattle.std.specs.Prelude.{◌≤◌, length, IsTrue};
 ghost use Rattle.fuse_requests.specs.Text.{spelling, HasNames, IsName, IsWritable};
 

@@ -1,8 +1,9 @@
+//! Frames of requests, written.
 ghost use Rattle.std.specs.Prelude.{◌≡◌, ◌<◌, ◌≤◌, ◌^◌, ◌++◌, drop, length, IfOk, OnOk, Ok};
-ghost use Rattle.fuse_head.specs.Head.{IsWholeFrame, in_head_text};
+ghost use Rattle.fuse_head.specs.Head.{IsWholeFrame, in_head_text, longest_frame};
 ghost use Rattle.fuse_head.specs.Little as little;
 ghost use Rattle.fuse_requests.specs.Text.{request_text, head_of, spelling, body_text, InRange, IsWritable};
-ghost use Rattle.fuse_requests.specs.Grammar.{read_frame, plain};
+ghost use Rattle.fuse_requests.specs.Grammar.{read_frame, without_spare};
 
 use crate::fixed::push_fixed;
 use crate::head::push_head;
@@ -27,7 +28,7 @@ pub fn write_request(alloc: Global, unique: u64, request: &Request) -> Result<By
     ensures bytes { IfOk result (λ frame. frame ≡ request_text unique request.now) }
     ensures whole { IfOk result (λ frame. IsWholeFrame frame) }
     ensures unique { IfOk result (λ frame. little.u64_at frame 8 ≡ unique) }
-    ensures read { IfOk result (λ frame. read_frame frame ≡ Ok (plain request.now)) }
+    ensures read { IfOk result (λ frame. read_frame frame ≡ Ok (without_spare request.now)) }
 {
     let frame = frame_of(alloc, unique, request)?;
     Ok(Bytes::from_vec(frame))
@@ -46,7 +47,7 @@ fn frame_of(alloc: Global, unique: u64, request: &Request) -> Result<Vec<u8>, No
 
 // The length of the frame isn't known yet, and stands as 0.
 fn push_parts(out: &mut Vec<u8>, unique: u64, request: &Request) -> Result<(), NoMemory>
-    requires { length (spelling request.now).tail ≤ 135_168 }
+    requires { length (spelling request.now).tail ≤ longest_frame }
     ensures ok { OnOk result (out.new.items ≡ out.old.items ++ (in_head_text (head_of 0 unique request.now) ++ body_text request.now)) }
     ensures range { OnOk result (InRange request.now) }
 {

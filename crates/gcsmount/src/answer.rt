@@ -2,7 +2,7 @@ ghost use Rattle.std.specs.Prelude.{◌≡◌, ◌∷◌, [], IfOk, IfErr, OnOk,
 ghost use Rattle.std.specs.Io.KnownBytes.{Appends};
 ghost use Rattle.fuse_frames.specs.Cutter.{place};
 ghost use Rattle.fuse_head.specs.Head.{IsWholeFrame};
-ghost use Rattle.fuse_requests.specs.Grammar.{plain, request_of};
+ghost use Rattle.fuse_requests.specs.Grammar.{without_spare, request_of};
 ghost use Rattle.io_ports.specs.Faults.{Rose};
 ghost use Rattle.io_ports.specs.Streams.{AppendsPrefix};
 ghost use Rattle.mount_spec.specs.OneThread.{Serves};
@@ -10,7 +10,7 @@ ghost use Rattle.gcsmount.specs.Answers.{Answers};
 
 use crate::serial::Serial;
 use fuse_frames::FrameCutter;
-use fuse_head::{u32_at, u64_at};
+use fuse_head::head_of;
 use fuse_replies::write_reply;
 use fuse_requests::{BodyFault, Request, read_request};
 use io_ports::{Bytes, Failed, NoMemory, Sink};
@@ -68,19 +68,19 @@ fn reply_to(alloc: Global, serial: &mut Serial, frame: &[u8]) -> Result<Bytes, N
 {
     let request = request_in(alloc, frame)?;
     let reply = serial.call(alloc, request)?;
-    write_reply(alloc, u64_at(frame, 8), &reply)
+    write_reply(alloc, head_of(frame).unique, &reply)
 }
 
 // What a whole frame asks: an unknown request of its opcode where its body is outside the grammar.
 fn request_in(alloc: Global, frame: &[u8]) -> Result<Request, NoMemory>
     requires { IsWholeFrame frame.now }
-    ensures ok { IfOk result (λ request. plain request ≡ request_of frame.now) }
+    ensures ok { IfOk result (λ request. without_spare request ≡ request_of frame.now) }
 {
     match read_request(alloc, frame) {
         Ok(request) => Ok(request),
         Err(BodyFault::NoMemory) => Err(NoMemory),
         Err(_) => Ok(Request::Unknown {
-            opcode: u32_at(frame, 4),
+            opcode: head_of(frame).opcode,
         }),
     }
 }

@@ -1,14 +1,14 @@
 ghost use Rattle.std.specs.Prelude.{◌≡◌, ◌≤◌, ◌+◌, Bool, true, [], Some, IfOk, OnOk, OnErr};
 ghost use Rattle.bucket_api.specs.BucketStep.{answer_to};
 ghost use Rattle.bucket_api.specs.Operation.{insert as insert_of};
-ghost use Rattle.fuse_replies.specs.Replies.{IsSendable, plain as plain_reply};
+ghost use Rattle.fuse_replies.specs.Replies.{IsSendable, without_spare as reply_without_spare};
 ghost use Rattle.mount_spec.specs.Observations.{StopsShort, after_operation};
 ghost use Rattle.mount_spec.specs.PlainNames.{is_plain_name};
 ghost use Rattle.mount_spec.specs.Request.Create as create;
 ghost use Rattle.gcsmount.specs.Performing.{Creates};
 ghost use Rattle.gcsmount.specs.Tables.{AreCounted, model_of, most};
 
-use crate::errno::{EEXIST, EIO};
+use fuse_replies::errno::{EEXIST, EIO};
 use crate::node_table::NodeTable;
 use crate::store::Store;
 use bucket_api::{Answer, Op};
@@ -34,11 +34,11 @@ pub(crate) fn create(
     requires spare { 1 ≤ nodes.old.spare }
     requires room { 1 ≤ handles.old.spare }
     requires counted { AreCounted handles.old store.old }
-    ensures ok { IfOk result (λ reply. (negotiated : Bool) → Creates config.now second name (model_of nodes.old handles.old negotiated) store.old (plain_reply reply) (model_of nodes.new handles.new negotiated) store.new) }
+    ensures ok { IfOk result (λ reply. (negotiated : Bool) → Creates config.now second name (model_of nodes.old handles.old negotiated) store.old (reply_without_spare reply) (model_of nodes.new handles.new negotiated) store.new) }
     ensures err { OnErr result (StopsShort (create.plan second name) store.old store.new) }
     ensures nodes_kept { OnErr result (nodes.new ≡ nodes.old) }
     ensures handles_kept { OnErr result (handles.new ≡ handles.old) }
-    ensures sendable { IfOk result (λ reply. IsSendable (plain_reply reply)) }
+    ensures sendable { IfOk result (λ reply. IsSendable (reply_without_spare reply)) }
     ensures counted { AreCounted handles.new store.new }
 {
     let again = name.copy(alloc)?;

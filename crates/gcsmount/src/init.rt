@@ -1,8 +1,8 @@
 ghost use Rattle.std.specs.Prelude.{◌≡◌};
-ghost use Rattle.fuse_replies.specs.Replies.{IsSendable, plain};
+ghost use Rattle.fuse_replies.specs.Replies.{IsSendable, without_spare};
 ghost use Rattle.mount_spec.specs.Request.Init as init;
 
-use crate::errno::EPROTO;
+use fuse_replies::errno::EPROTO;
 use fuse_replies::Reply;
 
 /// The flags of INIT that the mount grants: ASYNC_READ, BIG_WRITES and PARALLEL_DIROPS.
@@ -18,7 +18,7 @@ pub(crate) fn is_taken(major: u32, minor: u32) -> bool
 /// What an INIT is answered. A newer major is told to offer 7, and an older version is refused.
 pub(crate) fn reply(major: u32, minor: u32, readahead: u32, flags: u32) -> Reply
     ensures reply { result ≡ init.reply major minor readahead flags }
-    ensures plain { plain result ≡ result }
+    ensures no_spare { without_spare result ≡ result }
     ensures sendable { IsSendable result }
 {
     if major > 7 {

@@ -1,13 +1,13 @@
 ghost use Rattle.std.specs.Prelude.{◌≡◌, ◌≤◌, ◌+◌, true, false, None, IfOk, OnOk, OnErr, if◌then◌else◌};
 ghost use Rattle.bucket_api.specs.BucketStep.{answer_to};
 ghost use Rattle.bucket_api.specs.Operation.{operation, stat as stat_of, list};
-ghost use Rattle.fuse_replies.specs.Replies.{IsSendable, plain as plain_reply};
+ghost use Rattle.fuse_replies.specs.Replies.{IsSendable, without_spare as reply_without_spare};
 ghost use Rattle.mount_spec.specs.Observations.{Observes, StopsShort, after_operation};
 ghost use Rattle.mount_spec.specs.PlainNames.{is_plain_name};
 ghost use Rattle.mount_spec.specs.Request.Lookup as lookup;
 ghost use Rattle.gcsmount.specs.Performing.{LooksUp};
 
-use crate::errno::{EIO, ENOENT};
+use fuse_replies::errno::{EIO, ENOENT};
 use crate::node_table::NodeTable;
 use crate::store::Store;
 use bucket_api::{Answer, Op};
@@ -28,10 +28,10 @@ pub(crate) fn look_up(
 ) -> Result<Reply, NoMemory>
     requires name { is_plain_name name ≡ true }
     requires spare { 1 ≤ nodes.old.spare }
-    ensures ok { IfOk result (λ reply. LooksUp config.now name nodes.old.table store.old (plain_reply reply) nodes.new.table store.new) }
+    ensures ok { IfOk result (λ reply. LooksUp config.now name nodes.old.table store.old (reply_without_spare reply) nodes.new.table store.new) }
     ensures err { OnErr result (StopsShort (lookup.plan config.now name) store.old store.new) }
     ensures kept { OnErr result (nodes.new ≡ nodes.old) }
-    ensures sendable { IfOk result (λ reply. IsSendable (plain_reply reply)) }
+    ensures sendable { IfOk result (λ reply. IsSendable (reply_without_spare reply)) }
     ensures later { store.old.made ≤ store.new.made }
 {
     match find(alloc, config, store, &name)? {

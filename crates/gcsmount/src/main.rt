@@ -4,7 +4,6 @@
 mod answer;
 mod attributes;
 mod create;
-mod errno;
 mod init;
 mod lookup;
 mod names;

@@ -1,10 +1,10 @@
 ghost use Rattle.std.specs.Prelude.{◌≡◌, Some, None, if◌then◌else◌};
-ghost use Rattle.fuse_requests.specs.Grammar.{plain};
-ghost use Rattle.mount_spec.specs.Errno.{enosys};
+ghost use Rattle.fuse_requests.specs.Grammar.{without_spare};
+ghost use Rattle.fuse_replies.specs.Errno.{enosys};
 ghost use Rattle.mount_spec.specs.PlainNames as plain_names;
 ghost use Rattle.mount_spec.specs.Rules as rules;
 
-use crate::errno::{EINVAL, ENOSYS};
+use fuse_replies::errno::{EINVAL, ENOSYS};
 use crate::names::is_served;
 use fuse_requests::Request;
 use io_ports::Bytes;
@@ -28,7 +28,7 @@ const BATCH_FORGET: u32 = 42;
 
 /// Whether the request never gets a reply: FORGET, BATCH_FORGET and INTERRUPT, whatever their bodies.
 pub(crate) fn is_silent(request: &Request) -> bool
-    ensures { result ≡ rules.is_silent (plain request.now) }
+    ensures { result ≡ rules.is_silent (without_spare request.now) }
 {
     match request {
         Request::Forget { .. } | Request::BatchForget { .. } | Request::Interrupt => true,
@@ -41,7 +41,7 @@ pub(crate) fn is_silent(request: &Request) -> bool
 
 /// Whether the request is INIT, whatever its body.
 pub(crate) fn is_init(request: &Request) -> bool
-    ensures { result ≡ rules.is_init (plain request.now) }
+    ensures { result ≡ rules.is_init (without_spare request.now) }
 {
     match request {
         Request::Init { .. } => true,
@@ -52,7 +52,7 @@ pub(crate) fn is_init(request: &Request) -> bool
 
 /// The error of a request that is refused by itself, where a version is agreed on.
 pub(crate) fn refusal(request: &Request) -> Option<u32>
-    ensures { result ≡ rules.refusal (plain request.now) }
+    ensures { result ≡ rules.refusal (without_spare request.now) }
 {
     match request {
         Request::Init { .. } | Request::Statfs | Request::Destroy => None,

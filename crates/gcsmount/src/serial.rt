@@ -1,7 +1,7 @@
 ghost use Rattle.std.specs.Prelude.{◌≡◌, ◌^◌, ℕ, None, true, IfOk, OnOk, OnErr};
 ghost use Rattle.bucket_api.specs.BucketState.{IsBucket, IsWithin};
-ghost use Rattle.fuse_replies.specs.Replies.{IsSendable, plain as plain_reply};
-ghost use Rattle.fuse_requests.specs.Grammar.{plain};
+ghost use Rattle.fuse_replies.specs.Replies.{IsSendable, without_spare as reply_without_spare};
+ghost use Rattle.fuse_requests.specs.Grammar.{without_spare};
 ghost use Rattle.fuse_requests.specs.declared.request.Request.TheVariants.{Create, Forget, Init, Lookup};
 ghost use Rattle.mount_spec.specs.Counts.{CountsDecide, NumbersRise};
 ghost use Rattle.mount_spec.specs.OneThread.{Performs, first_state};
@@ -10,7 +10,7 @@ ghost use Rattle.mount_spec.specs.Rules as rules;
 ghost use Rattle.mount_spec.specs.Rules.{early};
 
 use crate::create::create;
-use crate::errno::{ENOMEM, EPROTO};
+use fuse_replies::errno::{ENOMEM, EPROTO};
 use crate::init;
 use crate::lookup::look_up;
 use crate::names::plain_text;
@@ -78,8 +78,8 @@ impl Serial {
     /// Performs a request, as the one-thread mount does. `NoMemory` where memory for room in the tables, or for the first
     /// copy of a name, was refused; it leaves all as it was. Where memory is refused later the request is answered ENOMEM.
     pub fn call(&mut self, alloc: Global, request: Request) -> Result<Reply, NoMemory>
-        ensures ok { IfOk result (λ reply. Performs self.old.config self.old.state (plain request) (plain_reply reply) self.new.state) }
-        ensures sendable { IfOk result (λ reply. IsSendable (plain_reply reply)) }
+        ensures ok { IfOk result (λ reply. Performs self.old.config self.old.state (without_spare request) (reply_without_spare reply) self.new.state) }
+        ensures sendable { IfOk result (λ reply. IsSendable (reply_without_spare reply)) }
         ensures config { self.new.config ≡ self.old.config }
         ensures err { OnErr result (self.new ≡ self.old) }
     {
@@ -88,8 +88,8 @@ impl Serial {
 
     // Refuses a request, or performs it.
     fn answer(&mut self, alloc: Global, request: &Request) -> Result<Reply, NoMemory>
-        ensures ok { IfOk result (λ reply. Performs self.old.config self.old.state (plain request.now) (plain_reply reply) self.new.state) }
-        ensures sendable { IfOk result (λ reply. IsSendable (plain_reply reply)) }
+        ensures ok { IfOk result (λ reply. Performs self.old.config self.old.state (without_spare request.now) (reply_without_spare reply) self.new.state) }
+        ensures sendable { IfOk result (λ reply. IsSendable (reply_without_spare reply)) }
         ensures config { self.new.config ≡ self.old.config }
         ensures err { OnErr result (self.new ≡ self.old) }
     {
@@ -101,9 +101,9 @@ impl Serial {
 
     // Performs a request that isn't refused.
     fn perform(&mut self, alloc: Global, request: &Request) -> Result<Reply, NoMemory>
-        requires { early self.old.state.mount (plain request.now) ≡ None }
-        ensures ok { IfOk result (λ reply. Performs self.old.config self.old.state (plain request.now) (plain_reply reply) self.new.state) }
-        ensures sendable { IfOk result (λ reply. IsSendable (plain_reply reply)) }
+        requires { early self.old.state.mount (without_spare request.now) ≡ None }
+        ensures ok { IfOk result (λ reply. Performs self.old.config self.old.state (without_spare request.now) (reply_without_spare reply) self.new.state) }
+        ensures sendable { IfOk result (λ reply. IsSendable (reply_without_spare reply)) }
         ensures config { self.new.config ≡ self.old.config }
         ensures err { OnErr result (self.new ≡ self.old) }
     {
@@ -125,7 +125,7 @@ impl Serial {
 
     // The error of a request that is refused before anything is asked of the bucket.
     fn early(&self, request: &Request) -> Option<u32>
-        ensures { result ≡ early self.now.state.mount (plain request.now) }
+        ensures { result ≡ early self.now.state.mount (without_spare request.now) }
     {
         if is_silent(request) {
             return None;
@@ -138,8 +138,8 @@ impl Serial {
 
     // INIT.
     fn init(&mut self, major: u32, minor: u32, readahead: u32, flags: u32) -> Reply
-        ensures ok { early self.old.state.mount (Init major minor readahead flags) ≡ None → Performs self.old.config self.old.state (Init major minor readahead flags) (plain_reply result) self.new.state }
-        ensures sendable { IsSendable (plain_reply result) }
+        ensures ok { early self.old.state.mount (Init major minor readahead flags) ≡ None → Performs self.old.config self.old.state (Init major minor readahead flags) (reply_without_spare result) self.new.state }
+        ensures sendable { IsSendable (reply_without_spare result) }
         ensures config { self.new.config ≡ self.old.config }
     {
         let reply = init::reply(major, minor, readahead, flags);
@@ -153,8 +153,8 @@ impl Serial {
     // LOOKUP of a plain name in the root.
     fn look_up(&mut self, alloc: Global, name: &[u8]) -> Result<Reply, NoMemory>
         requires { is_plain_name name.now ≡ true }
-        ensures ok { IfOk result (λ reply. (node : ℕ) → early self.old.state.mount (Lookup node name.now) ≡ None → Performs self.old.config self.old.state (Lookup node name.now) (plain_reply reply) self.new.state) }
-        ensures sendable { IfOk result (λ reply. IsSendable (plain_reply reply)) }
+        ensures ok { IfOk result (λ reply. (node : ℕ) → early self.old.state.mount (Lookup node name.now) ≡ None → Performs self.old.config self.old.state (Lookup node name.now) (reply_without_spare reply) self.new.state) }
+        ensures sendable { IfOk result (λ reply. IsSendable (reply_without_spare reply)) }
         ensures config { self.new.config ≡ self.old.config }
         ensures err { OnErr result (self.new ≡ self.old) }
     {
@@ -170,8 +170,8 @@ impl Serial {
     // CREATE of a plain name in the root.
     fn create(&mut self, alloc: Global, name: &[u8]) -> Result<Reply, NoMemory>
         requires { is_plain_name name.now ≡ true }
-        ensures ok { IfOk result (λ reply. (node : ℕ) → early self.old.state.mount (Create node name.now) ≡ None → Performs self.old.config self.old.state (Create node name.now) (plain_reply reply) self.new.state) }
-        ensures sendable { IfOk result (λ reply. IsSendable (plain_reply reply)) }
+        ensures ok { IfOk result (λ reply. (node : ℕ) → early self.old.state.mount (Create node name.now) ≡ None → Performs self.old.config self.old.state (Create node name.now) (reply_without_spare reply) self.new.state) }
+        ensures sendable { IfOk result (λ reply. IsSendable (reply_without_spare reply)) }
         ensures config { self.new.config ≡ self.old.config }
         ensures err { OnErr result (self.new ≡ self.old) }
     {
@@ -196,8 +196,8 @@ impl Serial {
 
     // FORGET, which has no reply, and before a version is agreed on no effect.
     fn forget(&mut self, node: u64, count: u64) -> Reply
-        ensures ok { Performs self.old.config self.old.state (Forget node count) (plain_reply result) self.new.state }
-        ensures sendable { IsSendable (plain_reply result) }
+        ensures ok { Performs self.old.config self.old.state (Forget node count) (reply_without_spare result) self.new.state }
+        ensures sendable { IsSendable (reply_without_spare result) }
         ensures config { self.new.config ≡ self.old.config }
     {
         if !self.negotiated {

@@ -1,5 +1,5 @@
 -- Which numbers `without` and `together` have.
-use Rattle.std.proofs.Common.{◌≡◌, ℕ, Bool, true, false, not, ◌&&◌, ◌||◌, ◌==◌, List, filter, refl, ap, ◌∙◌, eqb-true}
+use Rattle.std.proofs.Common.{◌≡◌, ℕ, Bool, true, false, not, ◌&&◌, ◌||◌, ◌==◌, List, [], ◌∷◌, filter, refl, ap, ◌∙◌, eqb-true}
 use Rattle.std.proofs.lemmas.List.Folds.{list_any-append}
 use Rattle.std.proofs.lemmas.Map.Views.{any-filter_same}
 use Rattle.std.proofs.lemmas.Bool.Decides.{nat_tests}
@@ -52,3 +52,25 @@ has-together (Only ms) (Only ns) n = list_any-append (λ k. k == n) ms ns
 has-together (Only ms) (AllBut ns) n = ap not (lists-filter (λ k. not (lists ms k)) ns n) ∙ neither (lists ms n) (lists ns n)
 has-together (AllBut ms) (Only ns) n = ap not (lists-filter (λ k. not (lists ns k)) ms n) ∙ (neither (lists ns n) (lists ms n) ∙ or_comm (lists ns n) (not (lists ms n)))
 has-together (AllBut ms) (AllBut ns) n = ap not (lists-filter (λ k. lists ns k) ms n) ∙ not_both (lists ns n) (lists ms n)
+
+-- a number that is held, against the test for it
+one_of : (b t : Bool) → (t ≡ true → b ≡ true) → (b && not t) || t ≡ b
+one_of true true held = refl
+one_of true false held = refl
+one_of false true held = held refl
+one_of false false held = refl
+
+only-one : (n k : ℕ) → has (Only (n ∷ [])) k ≡ (k == n)
+only-one n k = or_false_is (n == k) ∙ same_test k n
+  where
+    or_false_is : (b : Bool) → b || false ≡ b
+    or_false_is true = refl
+    or_false_is false = refl
+
+-- what was split off and met again is held as before
+pub has-met_again : (held : Numbers) (n : ℕ) → has held n ≡ true → (k : ℕ) → has (together (without held n) (Only (n ∷ []))) k ≡ has held k
+has-met_again held n split k =
+    has-together (without held n) (Only (n ∷ [])) k
+    ∙ ap (λ b. b || has (Only (n ∷ [])) k) (has-without held n k)
+    ∙ ap (λ b. (has held k && not (k == n)) || b) (only-one n k)
+    ∙ one_of (has held k) (k == n) (λ e. ap (has held) (eqb-true k n e) ∙ split)

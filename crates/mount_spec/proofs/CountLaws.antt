@@ -11,7 +11,7 @@ use Rattle.fuse_requests.specs.declared.request.Request.{Request}
 use Rattle.fuse_requests.specs.declared.request.Request.TheVariants.{Lookup, Forget, Init, Statfs, Create, Destroy}
 use Rattle.mount_model.specs.declared.config.Config.{Config}
 use Rattle.mount_spec.specs.Counts.{given, given_back, lookups_in, count_along, CountsDecide}
-use Rattle.mount_spec.specs.Errno.{enosys, eproto}
+use Rattle.fuse_replies.specs.Errno.{enosys, eproto}
 use Rattle.mount_spec.specs.MountModel.{MountModel, NodeTable, root, IsNumbered}
 use Rattle.mount_spec.specs.Observations.{Observation, done}
 use Rattle.mount_spec.specs.OneThread.{RunState, Call, Ending, performed, short, IsRun, IsLawfulBy, first_state, mount_by, reply_by, state_after_call, state_after_calls}

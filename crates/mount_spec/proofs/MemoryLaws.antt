@@ -8,7 +8,7 @@ use Rattle.fuse_replies.specs.declared.reply.Reply.TheVariants.{Error, Silent}
 use Rattle.fuse_requests.specs.declared.request.Request.{Request}
 use Rattle.fuse_requests.specs.declared.request.Request.TheVariants.{Lookup, Init, Statfs, Create, Destroy, Unknown}
 use Rattle.mount_model.specs.declared.config.Config.{Config}
-use Rattle.mount_spec.specs.Errno.{einval, enomem, enosys, eproto}
+use Rattle.fuse_replies.specs.Errno.{einval, enomem, enosys, eproto}
 use Rattle.mount_spec.specs.MountModel.{NodeTable, MountModel}
 use Rattle.mount_spec.specs.Observations.{Observation}
 use Rattle.mount_spec.specs.PlainNames.{is_served}

@@ -7,7 +7,7 @@ use Rattle.fuse_replies.specs.declared.reply.Reply.{Reply}
 use Rattle.fuse_replies.specs.declared.reply.Reply.TheVariants.{Error}
 use Rattle.fuse_requests.specs.declared.request.Request.{Request}
 use Rattle.mount_model.specs.declared.config.Config.{Config}
-use Rattle.mount_spec.specs.Errno.{enomem}
+use Rattle.fuse_replies.specs.Errno.{enomem}
 use Rattle.mount_spec.specs.MountModel.{MountModel}
 use Rattle.mount_spec.specs.OneThread.{RunState, performed, short, Performs}
 use Rattle.mount_spec.specs.Rules.{early, plan_of, reply_of, mount_of}

@@ -6,7 +6,7 @@ use Rattle.fuse_requests.specs.declared.request.Request.{Request}
 use Rattle.fuse_requests.specs.declared.request.Request.TheVariants.{Lookup, Forget, Init, Statfs, Create, Destroy}
 use Rattle.io_ports.specs.declared.bytes.Bytes.{Bytes}
 use Rattle.mount_model.specs.declared.config.Config.{Config}
-use Rattle.mount_spec.specs.Errno.{enosys, eproto}
+use Rattle.fuse_replies.specs.Errno.{enosys, eproto}
 use Rattle.mount_spec.specs.MountModel.{MountModel}
 use Rattle.mount_spec.specs.Observations.{done}
 use Rattle.mount_spec.specs.Rules.{is_silent, is_init, refusal, early, plan_of, reply_of, mount_of}

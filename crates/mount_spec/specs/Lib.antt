@@ -1,7 +1,6 @@
 -- The definition of the mount on one thread: what it holds, and what each request asks, answers and leaves.
 pub mod Attributes
 pub mod Counts
-pub mod Errno
 pub mod MountModel
 pub mod Observations
 pub mod OneThread

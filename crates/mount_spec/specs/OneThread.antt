@@ -8,7 +8,7 @@ use Rattle.fuse_replies.specs.Replies.{frame_of}
 use Rattle.fuse_requests.specs.declared.request.Request.{Request}
 use Rattle.fuse_requests.specs.Grammar.{request_of}
 use Rattle.mount_model.specs.declared.config.Config.{Config}
-use Rattle.mount_spec.specs.Errno.{enomem}
+use Rattle.fuse_replies.specs.Errno.{enomem}
 use Rattle.mount_spec.specs.MountModel.{MountModel, first_mount}
 use Rattle.mount_spec.specs.Rules.{plan, reply_to, mount_after}
 use Rattle.mount_spec.specs.Observations.{Observation, done, after_operations, Completes, Begins}

@@ -7,7 +7,7 @@ use Rattle.fuse_replies.specs.declared.reply.Reply.TheVariants.{Error, Silent}
 use Rattle.fuse_requests.specs.declared.request.Request.{Request}
 use Rattle.fuse_requests.specs.declared.request.Request.TheVariants.{Lookup, Forget, BatchForget, Interrupt, Init, Statfs, Create, Destroy, Unknown}
 use Rattle.mount_model.specs.declared.config.Config.{Config}
-use Rattle.mount_spec.specs.Errno.{einval, enosys, eproto}
+use Rattle.fuse_replies.specs.Errno.{einval, enosys, eproto}
 use Rattle.mount_spec.specs.MountModel.{MountModel}
 use Rattle.mount_spec.specs.Observations.{Observation, Step, done}
 use Rattle.mount_spec.specs.Request.Create as create

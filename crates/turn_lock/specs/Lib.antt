@@ -1,3 +1,4 @@
+-- The words that the contracts of `turn_lock` cite.
 pub mod Book
 pub mod Seats
 pub mod Rule

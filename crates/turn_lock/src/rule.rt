@@ -9,6 +9,7 @@ use atomic_table::{Join, Play, Split, TableRule};
 use std::marker::{Brand, PhantomData};
 use std::snapshot::Snapshot;
 
+/// The rule of the table.
 pub(crate) struct ByTheBook;
 
 impl<S: Booked> TableRule<Option<S>, Known<S, S::Entry>, Snapshot<S>> for ByTheBook {
@@ -17,14 +18,14 @@ impl<S: Booked> TableRule<Option<S>, Known<S, S::Entry>, Snapshot<S>> for ByTheB
     ghost first = { λ about. first_known about.value };
 }
 
-// The turn is tried for.
+/// The turn is tried for.
 pub(crate) struct Take;
 
 impl<S: Booked> Play<Option<S>, Known<S, S::Entry>> for Take {
     ghost then = { took S.entries S.home S.may_make };
 }
 
-// An entry is made. A call at `Brand` picks which.
+/// An entry is made. A call at `Brand` picks which.
 pub(crate) trait Next<E> {
     ghost entry: { Option E };
 }
@@ -35,6 +36,7 @@ impl<E> Next<E> for Brand {
     ghost entry = { None };
 }
 
+/// The step that makes an entry.
 pub(crate) struct Write<N> {
     next: PhantomData<N>,
 }
@@ -43,19 +45,21 @@ impl<S, E, N: Next<E>> Play<Option<S>, Known<S, E>> for Write<N> {
     ghost then = { wrote N.entry };
 }
 
+/// The turn is given back.
 pub(crate) struct Leave;
 
 impl<S, E> Play<Option<S>, Known<S, E>> for Leave {
     ghost then = { left };
 }
 
+/// The length of the book is looked at.
 pub(crate) struct Glance;
 
 impl<S: Booked> Play<Option<S>, Known<S, S::Entry>> for Glance {
     ghost then = { glanced S.may_make };
 }
 
-// A number is given away. A call at `Brand` picks which.
+/// A number is given away. A call at `Brand` picks which.
 pub(crate) trait Given {
     ghost number: { ℕ };
 }
@@ -64,6 +68,7 @@ impl Given for Brand {
     ghost number = { 0 };
 }
 
+/// The step that gives a number away.
 pub(crate) struct Give<N> {
     given: PhantomData<N>,
 }
@@ -74,6 +79,7 @@ impl<S, E, N: Given> Split<Known<S, E>> for Give<N> {
     ghost right = { given N.number };
 }
 
+/// Another seat is taken in.
 pub(crate) struct Meet;
 
 impl<S, E> Join<Known<S, E>> for Meet {
@@ -82,6 +88,7 @@ impl<S, E> Join<Known<S, E>> for Meet {
     ghost spent = { spent };
 }
 
+/// The longer of two lists is found by the length of the book.
 pub(crate) struct Settle;
 
 impl<S, E> Play<Option<S>, Known<S, E>> for Settle {

@@ -21,19 +21,22 @@ pub(crate) type Board<S> = Shared<
     ByTheBook,
 >;
 
-// The words of the table.
+/// The word that tells who may enter.
 pub(crate) const TURN: usize = 0;
 
+/// The word that tells how many entries the book has.
 pub(crate) const LENGTH: usize = 1;
 
-// The one slot, which has the state.
+/// The one slot, which has the state.
 pub(crate) const STATE: usize = 0;
 
-// What the turn may be: free, taken, or taken while threads may sleep until it is free.
+/// The turn is free.
 pub(crate) const FREE: u64 = 0;
 
+/// The turn is taken.
 const TAKEN: u64 = 1;
 
+/// The turn is taken, and threads may sleep until it is free.
 pub(crate) const AWAITED: u64 = 2;
 
 /// Tries once for the turn. A thread that is about to sleep marks it, so that who leaves wakes a sleeper.
@@ -49,18 +52,25 @@ fn try_turn<S: Booked>(board: &Board<S>, place: &mut Place<S>, about_to_sleep: b
     board.compare_exchange::<Take>(place, TURN, FREE, TAKEN) == FREE
 }
 
-/// Waits for the turn: spins for a little, then yields, then sleeps until a thread leaves.
-pub(crate) fn take_turn<S: Booked, T: Wait>(rt: &T, board: &Board<S>, place: &mut Place<S>)
+/// Waits for the turn: spins for a little, then yields, then sleeps until a thread leaves. It answers how many tries it
+/// took, which is few, however long it slept.
+pub(crate) fn take_turn<S: Booked, T: Wait>(
+    rt: &T,
+    board: &Board<S>,
+    place: &mut Place<S>,
+) -> u64
     requires board { (place.old.table_id ≡ board.now.table_id) × (board.now.table_id.words ≡ 2) }
     requires own { has place.old.me.0.held place.old.me.0.number ≡ true }
     ensures kept { (place.new.table_id ≡ place.old.table_id) × (place.new.id ≡ place.old.id) }
     ensures taken { Enters S.entries S.home S.may_make place.old.me place.new.me }
 {
     let backoff = Backoff::new();
+    let mut tries = 0u64;
     for _ in rt.forever() {
         let about_to_sleep = backoff.is_completed();
+        tries = tries.saturating_add(1);
         if try_turn(board, place, about_to_sleep) {
-            return;
+            return tries;
         }
         if about_to_sleep {
             board.park(rt, TURN, AWAITED as u32);

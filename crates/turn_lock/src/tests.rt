@@ -1,3 +1,4 @@
+//! What no clause says of the lock: that threads take turns, and what their seats have seen.
 ghost use Rattle.std.specs.Prelude.{◌≡◌, [], IsTrue, IsFalse, IfOk};
 ghost use Rattle.lane_spec.specs.Numbers.{has};
 ghost use Rattle.turn_lock.specs.Seats.{first_seat};
@@ -11,13 +12,16 @@ use std::test::Fail;
 use std::thread;
 use std::thread::Threads;
 
-// How often a thread looks for what another one does, before it gives up.
+/// How often a thread looks for what another one does, before it gives up.
 const TURNS: u64 = 67_108_864;
 
-// How often a thread yields while it has the turn and another one waits for it.
+/// How often a thread yields while it has the turn and another one waits for it.
 const PAUSE: u64 = 10_000;
 
-// Each entry is the number of the seat that made it.
+/// How many tries for the turn only a thread takes that does not sleep.
+const SPINNING: u64 = 1_000;
+
+/// Each entry is the number of the seat that made it.
 #[derive(Drop)]
 struct Visits {
     by: Vec<u64>,
@@ -52,7 +56,7 @@ fn opened(alloc: Global) -> Result<(Turn<Visits>, Seat<Visits>), NoMemory>
     )
 }
 
-// Makes an entry, and answers whether there was memory for it.
+/// Makes an entry, and answers whether there was memory for it.
 fn visit<T: Wait>(rt: &T, turn: &Turn<Visits>, seat: &mut Seat<Visits>, number: u64) -> bool
     requires lock { seat.old.lock ≡ turn.now }
     requires outside { IsFalse seat.old.entered }
@@ -60,17 +64,33 @@ fn visit<T: Wait>(rt: &T, turn: &Turn<Visits>, seat: &mut Seat<Visits>, number: 
     requires number { seat.old.number ≡ number }
     ensures kept { seat.new ≡ record seat.old { seen = seat.new.seen; mine = seat.new.mine } }
 {
-    let mut visits = turn.enter(rt, seat);
+    visit_counted(rt, turn, seat, number).is_some()
+}
+
+/// Makes an entry, and answers how many tries for the turn it took; none where there was no memory for it.
+fn visit_counted<T: Wait>(
+    rt: &T,
+    turn: &Turn<Visits>,
+    seat: &mut Seat<Visits>,
+    number: u64,
+) -> Option<u64>
+    requires lock { seat.old.lock ≡ turn.now }
+    requires outside { IsFalse seat.old.entered }
+    requires own { IsTrue (has seat.old.held number) }
+    requires number { seat.old.number ≡ number }
+    ensures kept { seat.new ≡ record seat.old { seen = seat.new.seen; mine = seat.new.mine } }
+{
+    let (mut visits, tries) = turn.enter_counted(rt, seat);
     let Ok(()) = visits.by.push(number) else {
         turn.leave(seat, visits);
-        return false;
+        return None;
     };
     turn.append(seat, &visits);
     turn.leave(seat, visits);
-    true
+    Some(tries)
 }
 
-// Makes that many entries, and answers whether there was memory for all.
+/// Makes that many entries, and answers whether there was memory for all.
 fn visit_often<T: Wait>(
     rt: &T,
     turn: &Turn<Visits>,
@@ -91,7 +111,7 @@ fn visit_often<T: Wait>(
     (seat, all)
 }
 
-// Two threads make a thousand entries each.
+/// Two threads make a thousand entries each.
 fn two_visitors<R: Threads + Wait + Sync>(
     rt: &R,
     alloc: Global,
@@ -116,7 +136,7 @@ fn two_visitors<R: Threads + Wait + Sync>(
     Ok((turn.close(home), one.1 && two.1))
 }
 
-// Looks at a flag until it is set. Not for ever.
+/// Looks at a flag until it is set. Not for ever.
 fn sees(flag: &AtomicBool) -> bool {
     for _ in 0..TURNS {
         if flag.load(Ordering::SeqCst) {
@@ -127,7 +147,7 @@ fn sees(flag: &AtomicBool) -> bool {
     false
 }
 
-// Keeps the turn until the other thread has glanced.
+/// Keeps the turn until the other thread has glanced.
 fn hold<T: Wait>(
     rt: &T,
     turn: &Turn<Visits>,
@@ -147,7 +167,7 @@ fn hold<T: Wait>(
     (seat, seen)
 }
 
-// Glances while the other thread has the turn.
+/// Glances while the other thread has the turn.
 fn glance_within(
     turn: &Turn<Visits>,
     mut seat: Seat<Visits>,
@@ -163,7 +183,7 @@ fn glance_within(
     (seat, seen)
 }
 
-// One thread has the turn until another one has glanced.
+/// One thread has the turn until another one has glanced.
 fn holder_and_glancer<R: Threads + Wait + Sync>(
     rt: &R,
     alloc: Global,
@@ -189,7 +209,7 @@ fn holder_and_glancer<R: Threads + Wait + Sync>(
     Ok((turn.close(home), one.1 && two.1))
 }
 
-// Makes an entry with another thread waiting for the turn.
+/// Makes an entry with another thread waiting for the turn.
 fn visit_slowly<T: Wait>(
     rt: &T,
     turn: &Turn<Visits>,
@@ -216,7 +236,7 @@ fn visit_slowly<T: Wait>(
     (seat, true)
 }
 
-// Makes an entry once the other thread has the turn, and so after it.
+/// Makes an entry once the other thread has the turn, and so after it. It sleeps meanwhile: it takes few tries.
 fn visit_after<T: Wait>(
     rt: &T,
     turn: &Turn<Visits>,
@@ -230,11 +250,14 @@ fn visit_after<T: Wait>(
     ensures kept { result.0 ≡ record seat { seen = result.0.seen; mine = result.0.mine } }
 {
     let seen = sees(entered);
-    let made = visit(rt, turn, &mut seat, 2);
-    (seat, seen && made)
+    let few = match visit_counted(rt, turn, &mut seat, 2) {
+        Some(tries) => tries < SPINNING,
+        None => false,
+    };
+    (seat, seen && few)
 }
 
-// One thread waits for the turn while the other one has it.
+/// One thread waits for the turn while the other one has it.
 fn one_after_another<R: Threads + Wait + Sync>(
     rt: &R,
     alloc: Global,
@@ -260,7 +283,7 @@ fn one_after_another<R: Threads + Wait + Sync>(
     Ok((turn.close(home), one.1 && two.1))
 }
 
-// The lengths that two seats of one thread find, before they have met and after.
+/// The lengths that two seats of one thread find, before they have met and after.
 fn lengths<T: Wait>(rt: &T, alloc: Global) -> Result<(Visits, [u64; 4]), NoMemory> {
     let (turn, mut home) = opened(alloc)?;
     let at_first = turn.glance(&mut home);

@@ -68,9 +68,21 @@ impl<S: Booked> Turn<S> {
         ensures seen { GoesOn seat.old.held seat.old.seen seat.new.seen }
         ensures kept { seat.new ≡ record seat.old { seen = seat.new.seen; entered = true } }
     {
+        self.enter_counted(rt, seat).0
+    }
+
+    /// Enters, and answers how many tries for the turn it took.
+    pub(crate) fn enter_counted<T: Wait>(&self, rt: &T, seat: &mut Seat<S>) -> (S, u64)
+        requires lock { seat.old.lock ≡ self.now }
+        requires outside { IsFalse seat.old.entered }
+        requires own { IsTrue (has seat.old.held seat.old.number) }
+        ensures stands { StandsFor S.entries S.home S.may_make self.now.first seat.new.seen result.0 }
+        ensures seen { GoesOn seat.old.held seat.old.seen seat.new.seen }
+        ensures kept { seat.new ≡ record seat.old { seen = seat.new.seen; entered = true } }
+    {
         let board = &self.table.shared;
-        take_turn(rt, board, &mut seat.place);
-        board.exchange(&mut seat.place, STATE, None).unwrap()
+        let tries = take_turn(rt, board, &mut seat.place);
+        (board.exchange(&mut seat.place, STATE, None).unwrap(), tries)
     }
 
     /// Adds the next entry of the state's list to the book: the first that the seat has not seen. It is then one of the

@@ -9,7 +9,7 @@ use Rattle.fuse_replies.specs.declared.reply.Reply.{Reply}
 use Rattle.fuse_replies.specs.declared.reply.Reply.TheVariants.{Error, Created}
 use Rattle.mount_model.specs.declared.config.Config.{Config}
 use Rattle.mount_spec.specs.Attributes.{entry_of}
-use Rattle.mount_spec.specs.Errno.{eexist, eio, enosys}
+use Rattle.fuse_replies.specs.Errno.{eexist, eio, enosys}
 use Rattle.mount_spec.specs.MountModel.{MountModel}
 use Rattle.mount_spec.specs.declared.node.Node.{Node}
 use Rattle.mount_spec.specs.declared.outcomes.Made.{Made}

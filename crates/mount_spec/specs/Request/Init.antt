@@ -4,7 +4,7 @@
 use Rattle.std.specs.Prelude.{ℕ, Bool, true, false, ◌==◌, ◌&&◌, nat_lt, nat_le, bit_and, if◌then◌else◌}
 use Rattle.fuse_replies.specs.declared.reply.Reply.{Reply}
 use Rattle.fuse_replies.specs.declared.reply.Reply.TheVariants.{Error, InitDone}
-use Rattle.mount_spec.specs.Errno.{eproto}
+use Rattle.fuse_replies.specs.Errno.{eproto}
 use Rattle.mount_spec.specs.MountModel.{MountModel}
 
 abbrev pub opcode : ℕ

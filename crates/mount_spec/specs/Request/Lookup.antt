@@ -9,7 +9,7 @@ use Rattle.fuse_replies.specs.declared.reply.Reply.TheVariants.{Error, Entry}
 use Rattle.mount_model.specs.declared.config.Config.{Config}
 use Rattle.object_names.specs.Paths.{dir_prefix_of}
 use Rattle.mount_spec.specs.Attributes.{entry_of}
-use Rattle.mount_spec.specs.Errno.{eio, enoent, enosys}
+use Rattle.fuse_replies.specs.Errno.{eio, enoent, enosys}
 use Rattle.mount_spec.specs.MountModel.{NodeTable}
 use Rattle.mount_spec.specs.declared.outcomes.Probed.{Probed}
 use Rattle.mount_spec.specs.declared.outcomes.Probed.TheVariants.{Present, Absent, Failed}

@@ -9,17 +9,17 @@ pub loop-dirent-init : goal.loop-dirent-init
 unfolding dirents_text
 loop-dirent-init c = refl
 
-pub dirent_len-len-requires : goal.dirent_len-len-requires
-dirent_len-len-requires c =
+pub entry_len-len-requires : goal.entry_len-len-requires
+entry_len-len-requires c =
     let item = ap (λ (d : Dirent). length (dirent_text d)) c.dirent-item.is in
     omega (arith, item, dirent_within c.args.dirents.now c.loop-dirent.dirent-index c.dirent-item.result c.loop-dirent-test.true, c.requires)
 
 pub overflow_add-len : goal.overflow_add-len
 overflow_add-len c =
     let item = ap (λ (d : Dirent). length (dirent_text d)) c.dirent-item.is in
-    omega (arith, item, dirent_within c.args.dirents.now c.loop-dirent.dirent-index c.dirent-item.result c.loop-dirent-test.true, c.requires, c.dirent_len-len.ensures, c.loop-dirent.invariant)
+    omega (arith, item, dirent_within c.args.dirents.now c.loop-dirent.dirent-index c.dirent-item.result c.loop-dirent-test.true, c.requires, c.entry_len-len.ensures, c.loop-dirent.invariant)
 
 pub loop-dirent-preserved : goal.loop-dirent-preserved
 loop-dirent-preserved c =
     let item = ap (λ (d : Dirent). length (dirent_text d)) c.dirent-item.is in
-    omega (arith, item, length-dirents_more c.args.dirents.now c.loop-dirent.dirent-index c.dirent-item.result c.loop-dirent-test.true, c.dirent_len-len.ensures, c.loop-dirent.invariant)
+    omega (arith, item, length-dirents_more c.args.dirents.now c.loop-dirent.dirent-index c.dirent-item.result c.loop-dirent-test.true, c.entry_len-len.ensures, c.loop-dirent.invariant)

@@ -4,7 +4,7 @@ use Rattle.std.proofs.lemmas.Bool.{eqb-true}
 use Rattle.std.proofs.lemmas.List.{nil_from_length}
 use Rattle.std.proofs.lemmas.Result.{err_from_is_err_and}
 use Rattle.fuse_head.specs.Head.{out_head}
-use Rattle.fuse_replies.specs.Replies.{plain}
+use Rattle.fuse_replies.specs.Replies.{without_spare}
 use Rattle.fuse_replies.proofs.HeadReads.{body_of_frame, error_again, error_frame, errno_small, frame_of_body, no_frame, pos_from, same_head}
 use Rattle.fuse_replies.proofs.read.read_reply.Goals as goal
 
@@ -27,7 +27,7 @@ returns-then-errno-gt-LAST_ERRNO-clause-malformed c = λ malformed unique reply 
 pub returns-then-errno-eq0-clause-ok : goal.returns-then-errno-eq0-clause-ok
 returns-then-errno-eq0-clause-ok c =
     let is = c.in-Some.ensures.3 ∙ ap (λ (errno : ℕ). out_head (16 + length c.in-Some.body.now) errno c.in-Some.unique ++ c.in-Some.body.now) c.if-errno-eq0.true in
-    frame_of_body c.args.kind c.in-Some.unique c.in-Some.body.now c.args.bytes.now (plain c.in_ok-reply.reply) c.in-Some.ensures.1 is c.in_ok-reply.ensures.found
+    frame_of_body c.args.kind c.in-Some.unique c.in-Some.body.now c.args.bytes.now (without_spare c.in_ok-reply.reply) c.in-Some.ensures.1 is c.in_ok-reply.ensures.found
 
 pub returns-then-errno-eq0-clause-again : goal.returns-then-errno-eq0-clause-again
 returns-then-errno-eq0-clause-again c = λ unique reply frame.
@@ -68,4 +68,4 @@ returns-clause-ok c =
 pub returns-clause-again : goal.returns-clause-again
 returns-clause-again c = λ unique reply frame.
     let of = error_again c.args.kind c.in-Some.errno c.in-Some.unique unique c.in-Some.body.now c.args.bytes.now reply (pos_from c.in-Some.errno c.if-errno-eq0.false) c.in-Some.ensures.0 c.in-Some.ensures.1 c.in-Some.ensures.3 frame in
-    (of.3, ap plain (sym of.0))
+    (of.3, ap without_spare (sym of.0))

@@ -2,7 +2,7 @@
 use Rattle.std.proofs.Common.{◌≡◌, ◌∙◌, ◌+◌, None, ap, length, arith}
 use Rattle.std.proofs.lemmas.Bool.Decides.{Decides-eqb}
 use Rattle.std.proofs.lemmas.Slice.Eq.{strip_prefix_is}
-use Rattle.fuse_head.specs.Head.{negated}
+use Rattle.fuse_head.specs.declared.out_head.OutHead.{OutHead}
 use Rattle.fuse_replies.proofs.HeadReads.{head_again, length-frame}
 use Rattle.fuse_replies.proofs.read.split_head.Goals as goal
 
@@ -15,8 +15,8 @@ returns-then-len-lt16 c = λ errno unique body errno_fits unique_fits fits is.
 
 pub returns-in_err-body : goal.returns-in_err-body
 returns-in_err-body c =
-    let negative : c.wrapping_neg-errno.result ≡ negated c.u32_at.result = omega (arith, c.wrapping_neg-errno.ensures, c.wrapping_neg-errno.type_inv, c.u32_at.type_inv) in
+    let head : OutHead = c.out_head_of.result in
     rw c.from_residual.ensures (λ errno unique body errno_fits unique_fits fits is.
     strip_prefix_is Decides-eqb c.args.bytes.now c.write_out_head.new.out None c.in_err-body.ensures.cases body
-    (head_again c.in-Ok.len errno unique c.wrapping_neg-errno.result c.u64_at-unique.result body c.args.bytes.now c.write_out_head.new.out errno_fits unique_fits is c.in-Ok.ensures.1
-    (negative ∙ ap negated c.u32_at.ensures) c.u64_at-unique.ensures c.write_out_head.ensures))
+    (head_again c.in-Ok.len errno unique head.errno head.unique body c.args.bytes.now c.write_out_head.new.out errno_fits unique_fits is c.in-Ok.ensures.1
+    (ap (λ (h : OutHead). h.errno) c.out_head_of.ensures) (ap (λ (h : OutHead). h.unique) c.out_head_of.ensures) c.write_out_head.ensures))

@@ -11,10 +11,10 @@ pub returns-then-not-is_taken-clause-ok : goal.returns-then-not-is_taken-clause-
 returns-then-not-is_taken-clause-ok c = λ allowed.
     let now : MountModel = c.args.self.now.state.mount in
     Performs-alone c.args.self.now.config c.args.self.now.state (Init c.args.major c.args.minor c.args.readahead c.args.flags) allowed _ now refl
-    (c.reply-reply.ensures.plain ∙ c.reply-reply.ensures.reply)
+    (c.reply-reply.ensures.no_spare ∙ c.reply-reply.ensures.reply)
     (ap (λ b. if b then record now { negotiated = true } else now) c.if-not-is_taken.ensures)
 
 pub returns-clause-ok : goal.returns-clause-ok
 returns-clause-ok c =
     Performs-taken c.args.self.now c.self.inside.config c.self.inside.nodes c.self.inside.handles c.self.inside.negotiated c.self.inside.store c.self.view_is
-    c.args.major c.args.minor c.args.readahead c.args.flags _ (sym c.if-not-is_taken.ensures) (c.reply-reply.ensures.plain ∙ c.reply-reply.ensures.reply)
+    c.args.major c.args.minor c.args.readahead c.args.flags _ (sym c.if-not-is_taken.ensures) (c.reply-reply.ensures.no_spare ∙ c.reply-reply.ensures.reply)

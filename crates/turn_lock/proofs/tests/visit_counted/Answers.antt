@@ -1,6 +1,6 @@
 use Rattle.std.proofs.Common.{rules, refl}
 use Rattle.turn_lock.proofs.Standing.{stands_after_append}
-use Rattle.turn_lock.proofs.tests.visit.Goals as goal
+use Rattle.turn_lock.proofs.tests.visit_counted.Goals as goal
 
 pub leave-requires-2-clause-stands : goal.leave-requires-2-clause-stands
 leave-requires-2-clause-stands g c =

@@ -1,0 +1,50 @@
+-- The errors that replies tell, by their numbers in Linux errno.h.
+use Rattle.std.specs.Prelude.{ℕ}
+
+abbrev pub enoent : ℕ
+enoent = 2
+
+abbrev pub eio : ℕ
+eio = 5
+
+abbrev pub ebadf : ℕ
+ebadf = 9
+
+abbrev pub enomem : ℕ
+enomem = 12
+
+abbrev pub ebusy : ℕ
+ebusy = 16
+
+abbrev pub eexist : ℕ
+eexist = 17
+
+abbrev pub enotdir : ℕ
+enotdir = 20
+
+abbrev pub eisdir : ℕ
+eisdir = 21
+
+abbrev pub einval : ℕ
+einval = 22
+
+abbrev pub efbig : ℕ
+efbig = 27
+
+abbrev pub enospc : ℕ
+enospc = 28
+
+abbrev pub enametoolong : ℕ
+enametoolong = 36
+
+abbrev pub enosys : ℕ
+enosys = 38
+
+abbrev pub enotempty : ℕ
+enotempty = 39
+
+abbrev pub eproto : ℕ
+eproto = 71
+
+abbrev pub estale : ℕ
+estale = 116
