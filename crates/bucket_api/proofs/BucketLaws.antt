@@ -11,19 +11,15 @@ use Rattle.std.specs.Map.{lookup, keys_of, set_value, remove_entry}
 use Rattle.std.specs.BTreeMap.{is_at, insert_entry}
 use Rattle.std.proofs.lemmas.Map.{keys-set_value}
 use Rattle.std.proofs.lemmas.Map.Keys.{sorted_head, sorted_tail}
+use Rattle.base_laws.proofs.Orders.{sorted_cons}
 use Rattle.bucket_api.specs.declared.objects.Object.{Object}
 use Rattle.bucket_api.specs.declared.objects.Pair.{Pair}
 use Rattle.bucket_api.specs.Names.{IsObjectName}
 use Rattle.bucket_api.specs.Metadata.{text_cmp, KeysRise}
 use Rattle.bucket_api.specs.Operation.{Operation, stat, read, insert, update, delete, copy, list, IsAllowed, max_content}
 use Rattle.bucket_api.specs.BucketState.{BucketState, empty_bucket, object_at, generation_at, IsStored, IsBucket, HasRoom}
-use Rattle.bucket_api.specs.BucketStep.{with_pair, with_pairs, holds, may_update, new_object, updated_object, with_new, with_object, without_object, state_after}
+use Rattle.bucket_api.specs.BucketStep.{with_pair, with_pairs, is_met, may_update, new_object, updated_object, with_new, with_object, without_object, state_after}
 use Rattle.bucket_api.proofs.TextOrder.{text_same, text_below, all_above}
-
--- a list of keys in order, from its parts
-sorted_cons : (k : List ℕ) (ks : List (List ℕ)) → AllByRecursion (λ y. text_cmp k y ≡ Less) ks → IsStrictlySortedBy text_cmp ks → IsStrictlySortedBy text_cmp (k ∷ ks)
-unfolding IsStrictlySortedBy
-sorted_cons k ks head tail = (head, tail)
 
 -- ---- the keys of entries stay in order
 
@@ -40,16 +36,16 @@ module _ {X : Type 0} (k : List ℕ) (v : X) where
 
   -- an insertion keeps the keys in order
   pub sorted_inserted : (es : List (List ℕ × X)) → IsStrictlySortedBy text_cmp (keys_of es) → IsStrictlySortedBy text_cmp (keys_of (insert_entry text_cmp es k v))
-  sorted_inserted [] sorted = sorted_cons k [] tt sorted
+  sorted_inserted [] sorted = sorted_cons text_cmp k [] tt sorted
   sorted_inserted (e ∷ es) sorted = by (text_cmp k e.0) refl (sorted_inserted es (sorted_tail text_cmp e.0 (keys_of es) sorted))
     where
       head : AllByRecursion (λ y. text_cmp e.0 y ≡ Less) (keys_of es)
       head = sorted_head text_cmp e.0 (keys_of es) sorted
 
       by : (r : Ordering) → text_cmp k e.0 ≡ r → IsStrictlySortedBy text_cmp (keys_of (insert_entry text_cmp es k v)) → IsStrictlySortedBy text_cmp (keys_of (match_ordering r ((k, v) ∷ e ∷ es) ((e.0, v) ∷ es) (e ∷ insert_entry text_cmp es k v)))
-      by Less below later = sorted_cons k _ (below, all_above k e.0 (keys_of es) below head) sorted
+      by Less below later = sorted_cons text_cmp k _ (below, all_above k e.0 (keys_of es) below head) sorted
       by Equal same later = sorted
-      by Greater above later = sorted_cons e.0 _ (below_inserted e.0 es head (text_below k e.0 above)) later
+      by Greater above later = sorted_cons text_cmp e.0 _ (below_inserted e.0 es head (text_below k e.0 above)) later
 
   -- what holds of each entry and of a new one holds of each, once the new one is among them
   all_inserted : (P : List ℕ → X → Type 0) (es : List (List ℕ × X)) → AllByRecursion (λ e. P e.0 e.1) es → P k v → AllByRecursion (λ e. P e.0 e.1) (insert_entry text_cmp es k v)
@@ -100,7 +96,7 @@ module _ {X : Type 0} (test : List ℕ → Bool) where
 
       by : (b : Bool) → IsStrictlySortedBy text_cmp (keys_of (remove_entry test es)) → IsStrictlySortedBy text_cmp (keys_of (cond b es (e ∷ remove_entry test es)))
       by true later = tail
-      by false later = sorted_cons e.0 _ (below_removed e.0 es (sorted_head text_cmp e.0 (keys_of es) sorted)) later
+      by false later = sorted_cons text_cmp e.0 _ (below_removed e.0 es (sorted_head text_cmp e.0 (keys_of es) sorted)) later
 
 -- what holds of each entry holds of the value that a look-up finds, with the key
 pub all_at : {X : Type 0} (P : List ℕ → X → Type 0) (k : List ℕ) (es : List (List ℕ × X)) → AllByRecursion (λ e. P e.0 e.1) es → IfSome (lookup (is_at (text_cmp k)) es) (P k)
@@ -129,7 +125,7 @@ below_with_pair x p (q ∷ qs) all below = by (text_cmp p.key q.key) (below_with
 
 -- a pair added or put in its place keeps the keys rising
 pub KeysRise-with_pair : (p : Pair) (pairs : List Pair) → KeysRise pairs → KeysRise (with_pair pairs p)
-KeysRise-with_pair p [] rise = sorted_cons p.key [] tt rise
+KeysRise-with_pair p [] rise = sorted_cons text_cmp p.key [] tt rise
 KeysRise-with_pair p (q ∷ qs) rise = by (text_cmp p.key q.key) refl (KeysRise-with_pair p qs tail)
   where
     head : AllByRecursion (λ y. text_cmp q.key y ≡ Less) (pair_keys qs)
@@ -139,9 +135,9 @@ KeysRise-with_pair p (q ∷ qs) rise = by (text_cmp p.key q.key) refl (KeysRise-
     tail = sorted_tail text_cmp q.key (pair_keys qs) rise
 
     by : (r : Ordering) → text_cmp p.key q.key ≡ r → KeysRise (with_pair qs p) → KeysRise (match_ordering r (p ∷ q ∷ qs) (p ∷ qs) (q ∷ with_pair qs p))
-    by Less below later = sorted_cons p.key _ (below, all_above p.key q.key (pair_keys qs) below head) rise
-    by Equal same later = sorted_cons p.key _ (subst (λ k. AllByRecursion (λ y. text_cmp k y ≡ Less) (pair_keys qs)) (sym (text_same p.key q.key same)) head) tail
-    by Greater above later = sorted_cons q.key _ (below_with_pair q.key p qs head (text_below p.key q.key above)) later
+    by Less below later = sorted_cons text_cmp p.key _ (below, all_above p.key q.key (pair_keys qs) below head) rise
+    by Equal same later = sorted_cons text_cmp p.key _ (subst (λ k. AllByRecursion (λ y. text_cmp k y ≡ Less) (pair_keys qs)) (sym (text_same p.key q.key same)) head) tail
+    by Greater above later = sorted_cons text_cmp q.key _ (below_with_pair q.key p qs head (text_below p.key q.key above)) later
 
 -- so do any number of them
 pub KeysRise-with_pairs : (pairs new : List Pair) → KeysRise pairs → KeysRise (with_pairs pairs new)
@@ -200,7 +196,7 @@ IsStored-updated_object last name o pairs stamp s = record { allowed = s.allowed
 pub IsBucket-state_after : (op : Operation) (b : BucketState) → IsAllowed op → IsBucket b → IsBucket (state_after op b)
 IsBucket-state_after (stat name) b may is = is
 IsBucket-state_after (read name generation first count) b may is = is
-IsBucket-state_after (insert name content pairs only stamp) b may is = by (holds only (generation_at b name))
+IsBucket-state_after (insert name content pairs only stamp) b may is = by (is_met only (generation_at b name))
   where
     by : (ok : Bool) → IsBucket (cond ok (with_new b name (new_object b name content pairs stamp)) b)
     by true = IsBucket-with_new b name _ is (IsStored-new_object b name content pairs stamp may.0 may.1 may.2)
@@ -220,9 +216,9 @@ IsBucket-state_after (delete name only) b may is = by (object_at b name)
     chosen true = IsBucket-without_object b name is
     chosen false = is
 
-    by : (found : Option Object) → IsBucket (option_map_or (λ o. if holds only o.meta.generation then without_object b name else b) found b)
+    by : (found : Option Object) → IsBucket (option_map_or (λ o. if is_met only o.meta.generation then without_object b name else b) found b)
     by None = is
-    by (Some o) = chosen (holds only o.meta.generation)
+    by (Some o) = chosen (is_met only o.meta.generation)
 IsBucket-state_after (copy from generation to stamp) b may is = by (object_at b from) (stored_at b is from)
   where
     made : (o : Object) → IsStored b.last from o → IsBucket (with_new b to (new_object b to o.content o.meta.pairs stamp))

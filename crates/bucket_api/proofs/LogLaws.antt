@@ -13,7 +13,7 @@ use Rattle.bucket_api.specs.declared.answers.Answer.TheVariants.{Meta, Bytes, No
 use Rattle.bucket_api.specs.LogEvent.{LogEvent}
 use Rattle.bucket_api.specs.Operation.{Operation, stat, read, insert, update, delete, copy, list, IsAllowed}
 use Rattle.bucket_api.specs.BucketState.{BucketState, object_at, object_of, generation_at, IsBucket, IsWithin}
-use Rattle.bucket_api.specs.BucketStep.{holds, refused, new_object, updated_object, may_update, answer_to}
+use Rattle.bucket_api.specs.BucketStep.{is_met, refused, new_object, updated_object, may_update, answer_to}
 use Rattle.bucket_api.specs.Log.{state_by, answer_by, event_at, state_at, answer_at, scripted_mode, FollowsScript}
 use Rattle.bucket_api.proofs.BucketLaws.{IsBucket-state_after}
 use Rattle.bucket_api.proofs.RoomLaws.{IsWithin-more, IsWithin-state_after}
@@ -42,12 +42,12 @@ never_either false a b first second = second
 pub never_fault : (op : Operation) (b : BucketState) → answer_to op b ≡ Fault → ⊥
 never_fault (stat name) b = never_found (λ o. Meta o.meta) NotFound (object_at b name) (λ o e. cc) (λ e. cc)
 never_fault (read name generation first count) b = never_found (λ o. Bytes (take count (drop first o.content))) NotFound (object_of b name generation) (λ o e. cc) (λ e. cc)
-never_fault (insert name content pairs only stamp) b = never_either (holds only (generation_at b name)) _ _ (λ e. cc) (λ e. cc)
+never_fault (insert name content pairs only stamp) b = never_either (is_met only (generation_at b name)) _ _ (λ e. cc) (λ e. cc)
 never_fault (update name pairs only only_meta stamp) b =
     never_found (λ o. if may_update only only_meta o then Meta (updated_object pairs stamp o).meta else refused b name) NotFound (object_at b name)
     (λ o. never_either (may_update only only_meta o) (Meta (updated_object pairs stamp o).meta) (refused b name) (λ e. cc) (λ e. cc)) (λ e. cc)
 never_fault (delete name only) b =
-    never_found (λ o. if holds only o.meta.generation then Deleted else refused b name) NotFound (object_at b name) (λ o. never_either (holds only o.meta.generation) Deleted (refused b name) (λ e. cc) (λ e. cc)) (λ e. cc)
+    never_found (λ o. if is_met only o.meta.generation then Deleted else refused b name) NotFound (object_at b name) (λ o. never_either (is_met only o.meta.generation) Deleted (refused b name) (λ e. cc) (λ e. cc)) (λ e. cc)
 never_fault (copy from generation to stamp) b = never_found (λ o. Meta (new_object b to o.content o.meta.pairs stamp).meta) NotFound (object_of b from generation) (λ o e. cc) (λ e. cc)
 never_fault (list prefix slash max after) b = λ e. cc
 

@@ -17,22 +17,22 @@ use Rattle.bucket_api.specs.declared.objects.Pair.{Pair}
 use Rattle.bucket_api.specs.Metadata.{text_cmp}
 use Rattle.bucket_api.specs.Operation.{Operation, stat, read, insert, update, delete, copy, list}
 use Rattle.bucket_api.specs.BucketState.{BucketState, empty_bucket, object_at, generation_at, metageneration_at, IsBucket, HasRoom, IsWithin}
-use Rattle.bucket_api.specs.BucketStep.{holds, may_update, new_object, updated_object, with_new, with_object, without_object, state_after}
+use Rattle.bucket_api.specs.BucketStep.{is_met, may_update, new_object, updated_object, with_new, with_object, without_object, state_after}
 
 -- ---- what a look-up finds after a change
 
 -- what holds of both values holds of the one that is chosen
-chosen : {X : Type 0} (P : X → Type 0) (ok : Bool) (x y : X) → P x → P y → P (cond ok x y)
+pub chosen : {X : Type 0} (P : X → Type 0) (ok : Bool) (x y : X) → P x → P y → P (cond ok x y)
 chosen P true x y first second = first
 chosen P false x y first second = second
 
 -- names as keys that the order does not tell apart
-same_names : IsEquivalence (eq_by_cmp text_cmp)
+pub same_names : IsEquivalence (eq_by_cmp text_cmp)
 same_names = eq_by_cmp_equiv nat_list_cmp_total
 
 module _ {X : Type 0} (P : Option X → Type 0) (q k : List ℕ) where
   -- what holds of the value that a look-up finds, and of a new one, holds of what it finds then
-  lookup_inserted : (v : X) (es : List (List ℕ × X)) → P (Some v) → P (lookup (is_at (text_cmp q)) es) → P (lookup (is_at (text_cmp q)) (insert_entry text_cmp es k v))
+  pub lookup_inserted : (v : X) (es : List (List ℕ × X)) → P (Some v) → P (lookup (is_at (text_cmp q)) es) → P (lookup (is_at (text_cmp q)) (insert_entry text_cmp es k v))
   lookup_inserted v [] new old = chosen P (is_at (text_cmp q) k) (Some v) None new old
   lookup_inserted v (e ∷ es) new old = by (text_cmp k e.0) (lookup_inserted v es new)
     where
@@ -108,9 +108,9 @@ IsWithin-state_after op most b is within = by op
         let was : o.meta.metageneration ≤ most = subst (λ found. option_map_or (λ o. o.meta.metageneration) found 0 ≤ most) live (within.metageneration name) in
         chosen (IsWithin (most + 1)) (may_update only only_meta o) _ b (within_with_object most b name (updated_object pairs stamp o) (subst IsSome (sym live) refl) (omega arith) within) same
 
-    deleted : (name : List ℕ) (only : Option ℕ) (found : Option Object) → IsWithin (most + 1) (option_map_or (λ o. if holds only o.meta.generation then without_object b name else b) found b)
+    deleted : (name : List ℕ) (only : Option ℕ) (found : Option Object) → IsWithin (most + 1) (option_map_or (λ o. if is_met only o.meta.generation then without_object b name else b) found b)
     deleted name only None = same
-    deleted name only (Some o) = chosen (IsWithin (most + 1)) (holds only o.meta.generation) _ b (IsWithin-more most (most + 1) _ (omega arith) (within_without_object most b name is within)) same
+    deleted name only (Some o) = chosen (IsWithin (most + 1)) (is_met only o.meta.generation) _ b (IsWithin-more most (most + 1) _ (omega arith) (within_without_object most b name is within)) same
 
     copied : (to : List ℕ) (stamp : ℕ) (found : Option Object) → IsWithin (most + 1) (option_map_or (λ o. with_new b to (new_object b to o.content o.meta.pairs stamp)) found b)
     copied to stamp None = same
@@ -119,7 +119,7 @@ IsWithin-state_after op most b is within = by op
     by : (op : Operation) → IsWithin (most + 1) (state_after op b)
     by (stat name) = same
     by (read name generation first count) = same
-    by (insert name content pairs only stamp) = chosen (IsWithin (most + 1)) (holds only (generation_at b name)) _ b (within_with_new most b name _ refl within) same
+    by (insert name content pairs only stamp) = chosen (IsWithin (most + 1)) (is_met only (generation_at b name)) _ b (within_with_new most b name _ refl within) same
     by (update name pairs only only_meta stamp) = updated name pairs only only_meta stamp (object_at b name) refl
     by (delete name only) = deleted name only (object_at b name)
     by (copy from generation to stamp) = copied to stamp (option_and_then (λ o. if o.meta.generation == generation then Some o else None) (object_at b from))

@@ -25,10 +25,10 @@ with_pair (q ∷ qs) p = match_ordering (text_cmp p.key q.key) (p ∷ q ∷ qs) 
 abbrev pub with_pairs : List Pair → List Pair → List Pair
 with_pairs pairs new = fold with_pair pairs new
 
--- a precondition on a number that is 0 where no object is live
-abbrev pub holds : Option ℕ → ℕ → Bool
-holds None live = true
-holds (Some only) live = only == live
+-- whether a precondition on a number is met, which is 0 where no object is live
+abbrev pub is_met : Option ℕ → ℕ → Bool
+is_met None live = true
+is_met (Some only) live = only == live
 
 -- the answer of a failed precondition carries the live numbers
 abbrev pub refused : BucketState → List ℕ → Answer
@@ -49,17 +49,17 @@ updated_object pairs stamp o = record o {
 
 -- both preconditions of an update
 abbrev pub may_update : Option ℕ → Option ℕ → Object → Bool
-may_update only only_meta o = holds only o.meta.generation && holds only_meta o.meta.metageneration
+may_update only only_meta o = is_met only o.meta.generation && is_met only_meta o.meta.metageneration
 
 -- what the operation answers
 abbrev pub answer_to : Operation → BucketState → Answer
 answer_to (stat name) b = option_map_or (λ o. Meta o.meta) (object_at b name) NotFound
 answer_to (read name generation first count) b = option_map_or (λ o. Bytes (take count (drop first o.content))) (object_of b name generation) NotFound
 answer_to (insert name content pairs only stamp) b =
-    if holds only (generation_at b name) then Meta (new_object b name content pairs stamp).meta else refused b name
+    if is_met only (generation_at b name) then Meta (new_object b name content pairs stamp).meta else refused b name
 answer_to (update name pairs only only_meta stamp) b =
     option_map_or (λ o. if may_update only only_meta o then Meta (updated_object pairs stamp o).meta else refused b name) (object_at b name) NotFound
-answer_to (delete name only) b = option_map_or (λ o. if holds only o.meta.generation then Done else refused b name) (object_at b name) NotFound
+answer_to (delete name only) b = option_map_or (λ o. if is_met only o.meta.generation then Done else refused b name) (object_at b name) NotFound
 answer_to (copy from generation to stamp) b =
     option_map_or (λ o. Meta (new_object b to o.content o.meta.pairs stamp).meta) (object_of b from generation) NotFound
 answer_to (list prefix slash max after) b = Page (page_of b.entries prefix slash max after)
@@ -81,10 +81,10 @@ abbrev pub state_after : Operation → BucketState → BucketState
 state_after (stat name) b = b
 state_after (read name generation first count) b = b
 state_after (insert name content pairs only stamp) b =
-    if holds only (generation_at b name) then with_new b name (new_object b name content pairs stamp) else b
+    if is_met only (generation_at b name) then with_new b name (new_object b name content pairs stamp) else b
 state_after (update name pairs only only_meta stamp) b =
     option_map_or (λ o. if may_update only only_meta o then with_object b name (updated_object pairs stamp o) else b) (object_at b name) b
-state_after (delete name only) b = option_map_or (λ o. if holds only o.meta.generation then without_object b name else b) (object_at b name) b
+state_after (delete name only) b = option_map_or (λ o. if is_met only o.meta.generation then without_object b name else b) (object_at b name) b
 state_after (copy from generation to stamp) b =
     option_map_or (λ o. with_new b to (new_object b to o.content o.meta.pairs stamp)) (object_of b from generation) b
 state_after (list prefix slash max after) b = b

@@ -1,5 +1,5 @@
--- The states and answers of a log of events. A moment is an event's place in the log, from 1.
-use Rattle.std.specs.Prelude.{◌≡◌, ℕ, zero, suc, ◌-◌, ◌==◌, List, [], ◌∷◌, take, fold, slice_get, Option, Some, None, option_map, unwrap_or, IfSome}
+-- The states and answers of a log of events, by moments.
+use Rattle.std.specs.Prelude.{◌≡◌, ℕ, ◌==◌, List, [], ◌∷◌, take, fold, Option, Some, None, option_map, unwrap_or, IfSome}
 use Rattle.std.specs.Map.{lookup}
 use Rattle.bucket_api.specs.declared.answers.Answer.{Answer}
 use Rattle.bucket_api.specs.declared.answers.Answer.TheVariants.{Fault}
@@ -7,6 +7,7 @@ use Rattle.bucket_api.specs.declared.objects.Object.{Object}
 use Rattle.bucket_api.specs.declared.events.Mode.{Mode}
 use Rattle.bucket_api.specs.declared.events.Mode.TheVariants.{Done, Failed, Lost}
 use Rattle.bucket_api.specs.LogEvent.{LogEvent}
+use Rattle.bucket_api.specs.Moments.{position_of, at_moment}
 use Rattle.bucket_api.specs.Operation.{Operation}
 use Rattle.bucket_api.specs.BucketState.{BucketState, object_of}
 use Rattle.bucket_api.specs.BucketStep.{answer_to, state_after}
@@ -25,8 +26,7 @@ answer_by Lost op b = Fault
 
 -- the event at a moment
 abbrev pub event_at : List LogEvent → ℕ → Option LogEvent
-event_at log zero = None
-event_at log (suc k) = slice_get log k
+event_at log moment = at_moment log moment
 
 -- the bucket at a moment, which at 0 is the bucket before the log
 abbrev pub state_at : BucketState → List LogEvent → ℕ → BucketState
@@ -34,7 +34,7 @@ state_at start log moment = fold (λ b e. state_by e.mode e.op b) start (take mo
 
 -- the answer of the event at a moment
 abbrev pub answer_at : BucketState → List LogEvent → ℕ → Option Answer
-answer_at start log moment = option_map (λ e. answer_by e.mode e.op (state_at start log (moment - 1))) (event_at log moment)
+answer_at start log moment = option_map (λ e. answer_by e.mode e.op (state_at start log (position_of moment))) (event_at log moment)
 
 -- the mode that a script of faults sets at a moment, `Done` where it names none
 abbrev pub scripted_mode : List (ℕ × Mode) → ℕ → Mode

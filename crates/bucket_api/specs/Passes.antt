@@ -1,11 +1,11 @@
 -- What a bucket that many share tells, and each pass to it.
 use Rattle.std.specs.Prelude.{◌≡◌, ℕ, ◌+◌, ◌-◌, ◌^◌, List, [], ◌∷◌, ◌++◌, length, All, Some, min}
-use Rattle.io_ports.specs.Faults.{Rose}
+use Rattle.io_ports.specs.Faults.{next_count}
 use Rattle.lane_spec.specs.declared.Numbers.{Numbers}
 use Rattle.lane_spec.specs.declared.Numbers.TheVariants.{Only, AllBut}
 use Rattle.lane_spec.specs.Going.{GoesOnBy}
 use Rattle.bucket_api.specs.declared.answers.Answer.{Answer}
-use Rattle.bucket_api.specs.declared.answers.Answer.TheVariants.{Meta, Bytes, Page, Done, NotFound, Precondition, Fault}
+use Rattle.bucket_api.specs.declared.answers.Answer.TheVariants.{Fault}
 use Rattle.bucket_api.specs.declared.events.Mode.{Mode}
 use Rattle.bucket_api.specs.LogEvent.{LogEvent}
 use Rattle.bucket_api.specs.Operation.{Operation, IsAllowed}
@@ -49,20 +49,15 @@ pub record SeesMore {I : Type 0} (old new : PassState I) : Type 0 where
   pub seen : LogGoesOn old.held old.seen new.seen
   pub kept : new ≡ record old { seen = new.seen }
 
--- A bucket's log stands on a bucket, and each operation in what was seen of it was one that may be asked
-pub record IsSound {I : Type 0} (pass : PassState I) : Type 0 where
+-- What the pass tells is of a bucket: the log stands on one, and each operation in what was seen of it was one that may be asked
+pub record IsBucketPass {I : Type 0} (pass : PassState I) : Type 0 where
   pub start : IsBucket pass.origin.start
   pub asked : All (λ e. IsAllowed e.op) pass.seen
 
--- a fault is answered only where the count rose, and else the count stays
-abbrev pub Counts : Answer → ℕ → ℕ → Type 0
-Counts Fault before now = Rose before now
-Counts (Meta meta) before now = now ≡ before
-Counts (Bytes bytes) before now = now ≡ before
-Counts (Page page) before now = now ≡ before
-Counts Done before now = now ≡ before
-Counts NotFound before now = now ≡ before
-Counts (Precondition generation metageneration) before now = now ≡ before
+-- the faults that a pass has met once it has the answer: one more where it is a fault, and else as many as before
+abbrev pub faults_after : Answer → ℕ → ℕ
+faults_after Fault faults = next_count faults
+faults_after answer faults = faults
 
 -- The pass has made one event, with its own lane and the operation, behind what others had made meanwhile. The moment is
 -- its place in the log, and the answer what the log answers there
@@ -74,4 +69,4 @@ pub record Acts {I : Type 0} (op : Operation) (old new : PassState I) (moment : 
   pub mine : new.mine ≡ old.mine ++ record { lane = old.lane; op = op; mode = mode } ∷ []
   pub place : moment ≡ length new.seen
   pub answered : answer_at old.origin.start new.seen moment ≡ Some answer
-  pub faults : Counts answer old.faults new.faults
+  pub faults : new.faults ≡ faults_after answer old.faults

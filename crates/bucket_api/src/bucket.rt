@@ -3,7 +3,7 @@ ghost use Rattle.std.specs.Prelude.{◌≡◌, ◌≤◌, length, IsTrue, IfOk, 
 ghost use Rattle.lane_spec.specs.Numbers.{has, without, together};
 ghost use Rattle.lane_spec.specs.Going.{longer};
 ghost use Rattle.bucket_api.specs.Operation.{operation, IsAllowed};
-ghost use Rattle.bucket_api.specs.Passes.{Origin, PassState, LogGoesOn, SeesMore, IsSound, Acts, split_pass, both_faults};
+ghost use Rattle.bucket_api.specs.Passes.{Origin, PassState, LogGoesOn, SeesMore, IsBucketPass, Acts, split_pass, both_faults};
 
 use crate::answers::Answer;
 use crate::operations::Op;
@@ -31,8 +31,8 @@ pub trait Bucket {
 
     /// Makes the operation, as one event of the pass's lane, and gives the event's moment and its answer.
     ///
-    /// A fault is answered only where the pass's count of faults has risen. After `NoMemory` there is no event, and the
-    /// pass may have seen more of the log.
+    /// The pass's count of faults rises by one, up to the end of `u64`, where a fault is answered, and stays where it
+    /// isn't. After `NoMemory` there is no event, and the pass may have seen more of the log.
     fn act<T: Wait>(
         &self,
         rt: &T,
@@ -47,7 +47,7 @@ pub trait Bucket {
         ensures err { OnErr result (SeesMore (told pass.old) (told pass.new)) }
         ensures kept { told pass.new ≡ record (told pass.old) { seen = (told pass.new).seen; mine = (told pass.new).mine; faults = (told pass.new).faults } }
         ensures faults { (told pass.old).faults ≤ (told pass.new).faults }
-        ensures sound { IsSound (told pass.new) };
+        ensures valid { IsBucketPass (told pass.new) };
 
     /// A new pass that has seen as much, with the lane for its own and no faults met. The lane goes over to it.
     fn split(&self, pass: &mut Self::Pass, lane: u64) -> Self::Pass
@@ -68,5 +68,5 @@ pub trait Bucket {
         requires pass { (told pass.old).origin ≡ origin self.now }
         ensures length { result ≡ length (told pass.new).seen }
         ensures seen { SeesMore (told pass.old) (told pass.new) }
-        ensures sound { IsSound (told pass.new) };
+        ensures valid { IsBucketPass (told pass.new) };
 }

@@ -3,7 +3,9 @@
 
 mod answers;
 mod bucket;
+mod contents;
 mod events;
+mod moments;
 mod names;
 mod objects;
 mod operations;
@@ -13,7 +15,9 @@ mod tests;
 
 pub use answers::Answer;
 pub use bucket::Bucket;
+pub use contents::content_laws;
 pub use events::{Event, Mode, Scripted};
+pub use moments::{event_at, moment_at, position_of};
 pub use names::allowed;
 pub use objects::{Meta, Object, Pair, copy_pairs};
 pub use operations::Op;

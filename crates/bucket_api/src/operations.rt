@@ -1,6 +1,6 @@
 //! The operations of a bucket.
 ghost use Rattle.std.specs.Prelude.{◌≡◌, IfOk};
-ghost use Rattle.bucket_api.specs.Operation.{operation};
+ghost use Rattle.bucket_api.specs.Operation.{operation, stat, read, insert, update, delete, copy, list};
 
 use crate::objects::{Pair, copy_pairs};
 use io_ports::{Bytes, NoMemory, Row, Text};
@@ -89,80 +89,159 @@ impl Op {
         ensures ok { IfOk result (λ op. operation op ≡ operation self.now) }
     {
         match self {
-            Op::Stat { name } => Ok(Op::Stat {
-                name: name.copy(alloc)?,
-            }),
+            Op::Stat { name } => copy_stat(alloc, name),
             Op::Read {
                 name,
                 generation,
                 first,
                 count,
-            } => Ok(Op::Read {
-                name: name.copy(alloc)?,
-                generation: *generation,
-                first: *first,
-                count: *count,
-            }),
+            } => copy_read(alloc, name, *generation, *first, *count),
             Op::Insert {
                 name,
                 content,
                 pairs,
                 only,
                 stamp,
-            } => Ok(Op::Insert {
-                name: name.copy(alloc)?,
-                content: content.copy(alloc)?,
-                pairs: copy_pairs(alloc, pairs)?,
-                only: *only,
-                stamp: *stamp,
-            }),
+            } => copy_insert(alloc, name, content, pairs, *only, *stamp),
             Op::Update {
                 name,
                 pairs,
                 only,
                 only_meta,
                 stamp,
-            } => Ok(Op::Update {
-                name: name.copy(alloc)?,
-                pairs: copy_pairs(alloc, pairs)?,
-                only: *only,
-                only_meta: *only_meta,
-                stamp: *stamp,
-            }),
-            Op::Delete { name, only } => Ok(Op::Delete {
-                name: name.copy(alloc)?,
-                only: *only,
-            }),
+            } => copy_update(alloc, name, pairs, *only, *only_meta, *stamp),
+            Op::Delete { name, only } => copy_delete(alloc, name, *only),
             Op::Copy {
                 from,
                 generation,
                 to,
                 stamp,
-            } => Ok(Op::Copy {
-                from: from.copy(alloc)?,
-                generation: *generation,
-                to: to.copy(alloc)?,
-                stamp: *stamp,
-            }),
+            } => copy_copy(alloc, from, *generation, to, *stamp),
             Op::List {
                 prefix,
                 slash,
                 max,
                 after,
-            } => Ok(Op::List {
-                prefix: prefix.copy(alloc)?,
-                slash: *slash,
-                max: *max,
-                after: copy_after(alloc, after)?,
-            }),
+            } => copy_list(alloc, prefix, *slash, *max, after),
         }
     }
 }
 
-fn copy_after(alloc: Global, after: &Option<Text>) -> Result<Option<Text>, NoMemory>
-    ensures ok { IfOk result (λ copy. copy ≡ after.now) }
+/// A `Stat` of the same name.
+fn copy_stat(alloc: Global, name: &Text) -> Result<Op, NoMemory>
+    ensures ok { IfOk result (λ op. operation op ≡ stat name.now) }
 {
-    match after {
+    let name = name.copy(alloc)?;
+    Ok(Op::Stat { name })
+}
+
+/// A `Read` of the same part.
+fn copy_read(
+    alloc: Global,
+    name: &Text,
+    generation: u64,
+    first: u64,
+    count: u64,
+) -> Result<Op, NoMemory>
+    ensures ok { IfOk result (λ op. operation op ≡ read name.now generation first count) }
+{
+    Ok(Op::Read {
+        name: name.copy(alloc)?,
+        generation,
+        first,
+        count,
+    })
+}
+
+/// An `Insert` of the same content and pairs.
+fn copy_insert(
+    alloc: Global,
+    name: &Text,
+    content: &Bytes,
+    pairs: &Row<Pair>,
+    only: Option<u64>,
+    stamp: u64,
+) -> Result<Op, NoMemory>
+    ensures ok { IfOk result (λ op. operation op ≡ insert name.now content.now pairs.now.items only stamp) }
+{
+    Ok(Op::Insert {
+        name: name.copy(alloc)?,
+        content: content.copy(alloc)?,
+        pairs: copy_pairs(alloc, pairs)?,
+        only,
+        stamp,
+    })
+}
+
+/// An `Update` by the same pairs.
+fn copy_update(
+    alloc: Global,
+    name: &Text,
+    pairs: &Row<Pair>,
+    only: Option<u64>,
+    only_meta: Option<u64>,
+    stamp: u64,
+) -> Result<Op, NoMemory>
+    ensures ok { IfOk result (λ op. operation op ≡ update name.now pairs.now.items only only_meta stamp) }
+{
+    Ok(Op::Update {
+        name: name.copy(alloc)?,
+        pairs: copy_pairs(alloc, pairs)?,
+        only,
+        only_meta,
+        stamp,
+    })
+}
+
+/// A `Delete` of the same name.
+fn copy_delete(alloc: Global, name: &Text, only: Option<u64>) -> Result<Op, NoMemory>
+    ensures ok { IfOk result (λ op. operation op ≡ delete name.now only) }
+{
+    let name = name.copy(alloc)?;
+    Ok(Op::Delete { name, only })
+}
+
+/// A `Copy` from the same source to the same name.
+fn copy_copy(
+    alloc: Global,
+    from: &Text,
+    generation: u64,
+    to: &Text,
+    stamp: u64,
+) -> Result<Op, NoMemory>
+    ensures ok { IfOk result (λ op. operation op ≡ copy from.now generation to.now stamp) }
+{
+    Ok(Op::Copy {
+        from: from.copy(alloc)?,
+        generation,
+        to: to.copy(alloc)?,
+        stamp,
+    })
+}
+
+/// A `List` of the same page.
+fn copy_list(
+    alloc: Global,
+    prefix: &Text,
+    slash: bool,
+    max: u64,
+    after: &Option<Text>,
+) -> Result<Op, NoMemory>
+    ensures ok { IfOk result (λ op. operation op ≡ list prefix.now slash max after.now) }
+{
+    Ok(Op::List {
+        prefix: prefix.copy(alloc)?,
+        slash,
+        max,
+        after: copy_key(alloc, after)?,
+    })
+}
+
+/// The same key, where there is one.
+fn copy_key(alloc: Global, key: &Option<Text>) -> Result<Option<Text>, NoMemory>
+    ensures ok { IfOk result (λ copy. copy ≡ key.now) }
+{
+    match key {
         Some(key) => Ok(Some(key.copy(alloc)?)),
         None => Ok(None),
     }

@@ -11,6 +11,7 @@ use Rattle.std.specs.Cmp.{tied_itself}
 use Rattle.std.specs.Cmp.Lexicographic.{nat_list_cmp_total}
 use Rattle.std.proofs.Math.Seq.{drop-append_seam}
 use Rattle.std.proofs.lemmas.Map.Keys.{sorted_head, sorted_tail}
+use Rattle.base_laws.proofs.Orders.{sorted_cons, le_less}
 use Rattle.bucket_api.specs.Metadata.{text_cmp}
 use Rattle.bucket_api.specs.Listing.{through_slash, key_of, in_order, keys_shown}
 use Rattle.bucket_api.proofs.TextOrder.{text_same, text_below, text_above, all_above}
@@ -46,21 +47,17 @@ below_in_order : (x : List ℕ) (ks : List (List ℕ)) → Below x ks → Below 
 below_in_order x [] all = tt
 below_in_order x (k ∷ ks) all = below_insert x k (in_order ks) all.0 (below_in_order x ks all.1)
 
-sorted_cons : (k : List ℕ) (ks : List (List ℕ)) → Below k ks → IsStrictlySortedBy text_cmp ks → IsStrictlySortedBy text_cmp (k ∷ ks)
-unfolding IsStrictlySortedBy
-sorted_cons k ks head tail = (head, tail)
-
 sorted_insert : (k : List ℕ) (ks : List (List ℕ)) → IsStrictlySortedBy text_cmp ks → IsStrictlySortedBy text_cmp (insert_key text_cmp ks k)
-sorted_insert k [] sorted = sorted_cons k [] tt sorted
+sorted_insert k [] sorted = sorted_cons text_cmp k [] tt sorted
 sorted_insert k (x ∷ ks) sorted = by (text_cmp k x) refl (sorted_insert k ks (sorted_tail text_cmp x ks sorted))
   where
     head : Below x ks
     head = sorted_head text_cmp x ks sorted
 
     by : (o : Ordering) → text_cmp k x ≡ o → IsStrictlySortedBy text_cmp (insert_key text_cmp ks k) → IsStrictlySortedBy text_cmp (match_ordering o (k ∷ x ∷ ks) (x ∷ ks) (x ∷ insert_key text_cmp ks k))
-    by Less e later = sorted_cons k (x ∷ ks) (e, all_above k x ks e head) sorted
+    by Less e later = sorted_cons text_cmp k (x ∷ ks) (e, all_above k x ks e head) sorted
     by Equal e later = sorted
-    by Greater e later = sorted_cons x _ (below_insert x k ks (text_below k x e) head) later
+    by Greater e later = sorted_cons text_cmp x _ (below_insert x k ks (text_below k x e) head) later
 
 -- texts in order rise
 pub sorted_in_order : (ks : List (List ℕ)) → IsStrictlySortedBy text_cmp (in_order ks)
@@ -173,15 +170,6 @@ own_key_shown prefix slash rest names none sorted =
     ∙ insert_first (prefix ++ rest) (keys_shown prefix slash names) (keys_above (prefix ++ rest) prefix slash names (own_keys_below prefix slash rest names none (sorted_head text_cmp (prefix ++ rest) names sorted))))
 
 -- ---- names that begin with a key that ends at a slash
-
--- what is above a text that is not below another is above that one
-pub le_less : (x y z : List ℕ) → is_le (text_cmp x y) ≡ true → text_cmp y z ≡ Less → text_cmp x z ≡ Less
-le_less x y z le less = by (text_cmp x y) refl le
-  where
-    by : (o : Ordering) → text_cmp x y ≡ o → is_le o ≡ true → text_cmp x z ≡ Less
-    by Less e le = nat_list_cmp_total.trans x y z e less
-    by Equal e le = nat_list_cmp_total.congr x y z e ∙ less
-    by Greater e le = cc
 
 -- a text that is below another is not above it
 pub le_from_less : (x y : List ℕ) → text_cmp x y ≡ Less → is_le (text_cmp x y) ≡ true

@@ -1,3 +1,4 @@
+-- The laws that the proofs of `bucket_list` cite.
 pub mod Keys
 pub mod Pages
 pub mod Starts

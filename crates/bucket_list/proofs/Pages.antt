@@ -16,6 +16,7 @@ use Rattle.std.proofs.lemmas.List.{take-append-drop, append-nil}
 use Rattle.std.proofs.lemmas.List.Elements.{filter-append, filter_map-append}
 use Rattle.std.proofs.lemmas.List.Kept.{IsStrictlySortedBy-filter}
 use Rattle.std.proofs.lemmas.Map.Keys.{sorted_head, sorted_tail}
+use Rattle.std.proofs.lemmas.List.{take_all}
 use Rattle.bucket_api.specs.declared.objects.Object.{Object}
 use Rattle.bucket_api.specs.Metadata.{Metadata, text_cmp}
 use Rattle.bucket_api.specs.PageData.{PageData}
@@ -41,13 +42,6 @@ module _ {X : Type 0} where
 
   pub length_left : (i : ℕ) (xs : List X) (x : X) (ys : List X) → drop i xs ≡ x ∷ ys → length xs ≡ i + (1 + length ys)
   length_left i xs x ys e = omega (arith, length-drop i xs, ap length e)
-
-  take_all : (n : ℕ) (xs : List X) → length xs ≤ n → take n xs ≡ xs
-  take_all n xs h = sym (append-nil (take n xs)) ∙ (ap (λ l. take n xs ++ l) (sym (none (drop n xs) (omega (arith, length-drop n xs)))) ∙ take-append-drop n xs)
-    where
-      none : (l : List X) → length l ≡ 0 → l ≡ []
-      none [] h = refl
-      none (x ∷ l) h = absurd (omega arith)
 
   last_of : (xs : List X) (x : X) (o : Option X) → last_or o (xs ++ x ∷ []) ≡ Some x
   last_of [] x o = refl

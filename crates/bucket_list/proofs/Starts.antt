@@ -17,7 +17,8 @@ use Rattle.bucket_api.proofs.TextOrder.{text_same, text_above, text_below}
 use Rattle.bucket_list.specs.Slash.{NoSlash, IsBeforeSlash}
 use Rattle.bucket_list.specs.Start.{StartsAfter}
 use Rattle.bucket_list.proofs.Texts.{cmp_front, le_front, starts_split, above_front, through_above, below_through, through_past, past_through}
-use Rattle.bucket_list.proofs.Keys.{beginning, filter-in_order, le_less}
+use Rattle.base_laws.proofs.Orders.{less_le, le_less}
+use Rattle.bucket_list.proofs.Keys.{beginning, filter-in_order}
 
 -- ---- the keys that are met from a bound on
 
@@ -54,15 +55,6 @@ module _ (prefix : List ℕ) (slash : Bool) (after : Option (List ℕ)) (start :
   keys_from_start names = filter-in_order (is_after after) (map (key_of prefix slash) (beginning prefix names)) ∙ ap in_order (keys_inside names)
 
 -- ---- the bounds
-
--- what is below a text that is not above another is below that one
-less_le : (x y z : List ℕ) → text_cmp x y ≡ Less → is_le (text_cmp y z) ≡ true → text_cmp x z ≡ Less
-less_le x y z less le = by (text_cmp y z) refl le
-  where
-    by : (o : Ordering) → text_cmp y z ≡ o → is_le o ≡ true → text_cmp x z ≡ Less
-    by Less e le = nat_list_cmp_total.trans x y z less e
-    by Equal e le = subst (λ w. text_cmp x w ≡ Less) (text_same y z e) less
-    by Greater e le = cc
 
 -- an order that does not turn back
 pub le_le : (x y z : List ℕ) → is_le (text_cmp x y) ≡ true → is_le (text_cmp y z) ≡ true → is_le (text_cmp x z) ≡ true

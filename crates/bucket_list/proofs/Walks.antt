@@ -28,9 +28,10 @@ use Rattle.bucket_list.specs.declared.walk.Key.{Key}
 use Rattle.bucket_list.specs.declared.walk.Key.TheVariants.{Name, Prefix}
 use Rattle.bucket_list.specs.Slash.{NoSlash, IsBeforeSlash}
 use Rattle.bucket_list.specs.Start.{StartsAfter}
-use Rattle.bucket_list.specs.Walking.{left_from, left, keys_left, IsAhead, IsWalk, Stops, key_text, IsKey}
+use Rattle.bucket_list.specs.Walking.{left_from, entries_left, keys_left, IsAhead, IsWalk, Stops, key_text, IsKey}
 use Rattle.bucket_list.proofs.Texts.{le_front, cmp_front, slash_below, starts_front, ends_none, ends_at}
-use Rattle.bucket_list.proofs.Keys.{Below, beginning, nothing_shown, own_key_shown, group_shown, group, past, names_from, le_less}
+use Rattle.base_laws.proofs.Orders.{less_le, le_less}
+use Rattle.bucket_list.proofs.Keys.{Below, beginning, nothing_shown, own_key_shown, group_shown, group, past, names_from}
 use Rattle.bucket_list.proofs.Starts.{keys_between, keys_from_start, le_le}
 
 abbrev Entries : Type 0
@@ -105,14 +106,6 @@ inside_above (Excluded a) x y h less = by (text_cmp a x) refl h
     by Greater e h = cc
 inside_above Unbounded x y h less = refl
 
-less_from_le : (x y z : List ℕ) → text_cmp x y ≡ Less → is_le (text_cmp y z) ≡ true → text_cmp x z ≡ Less
-less_from_le x y z less le = by (text_cmp y z) refl le
-  where
-    by : (o : Ordering) → text_cmp y z ≡ o → is_le o ≡ true → text_cmp x z ≡ Less
-    by Less e le = nat_list_cmp_total.trans x y z less e
-    by Equal e le = subst (λ w. text_cmp x w ≡ Less) (text_same y z e) less
-    by Greater e le = cc
-
 -- what the call that looks for the next name says
 abbrev pub Looks : List ℕ → Entries → Option Ahead → Entries → Type 0
 Looks prefix old ahead new = MatchOption ahead (Stops prefix old) (λ a. (old ≡ (a.name.now, a.object.now) ∷ new) × (a.name.now ≡ prefix ++ a.rest.now))
@@ -154,7 +147,7 @@ module _ (es : Entries) (sorted : IsStrictlySortedBy text_cmp (keys_of es)) (pre
         found = subst (Found es) (sym here) (all_filter (λ (e : List ℕ × Object). is_from_start text_cmp start e.0 && true) (λ e. lookup (is_at (text_cmp e.0)) es ≡ Some e.1) es (found_all es sorted));
         next = record {
           begins = looks.1;
-          later = λ t above. ap (from_bound (Included t)) here ∙ filter-filter (λ (e : List ℕ × Object). is_from_start text_cmp start e.0 && true) (λ e. is_le (text_cmp t e.0) && true) (λ e h. true_and _ (inside_above start a.name.now e.0 inside (less_from_le a.name.now t e.0 above (and_true _ h)))) es;
+          later = λ t above. ap (from_bound (Included t)) here ∙ filter-filter (λ (e : List ℕ × Object). is_from_start text_cmp start e.0 && true) (λ e. is_le (text_cmp t e.0) && true) (λ e h. true_and _ (inside_above start a.name.now e.0 inside (less_le a.name.now t e.0 above (and_true _ h)))) es;
         };
         keys = ap (λ ns. keys_shown prefix slash ns) names;
       }
@@ -212,7 +205,7 @@ module _ (es : Entries) (prefix : List ℕ) (slash : Bool) (a : Ahead) (rest : E
 abbrev pub gone_on : Walk → Entries → Option Ahead → Walk
 gone_on w rest ahead = record { objects = w.objects; prefix = w.prefix; slash = w.slash; rest = rest; ahead = ahead }
 
-left_ahead : (w : Walk) (a : Ahead) → w.ahead ≡ Some a → left w ≡ (a.name.now, a.object.now) ∷ w.rest
+left_ahead : (w : Walk) (a : Ahead) → w.ahead ≡ Some a → entries_left w ≡ (a.name.now, a.object.now) ∷ w.rest
 left_ahead w a is = ap (λ x. left_from x w.rest) is
 
 -- a step leaves a walk, and gives the next key

@@ -1,3 +1,4 @@
+-- The words that the contracts of `bucket_list` cite.
 pub mod Closing
 pub mod Slash
 pub mod Start

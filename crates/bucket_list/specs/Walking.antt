@@ -20,12 +20,12 @@ abbrev pub left_from : Option Ahead → List (List ℕ × Object) → List (List
 left_from None rest = []
 left_from (Some a) rest = (a.name.now, a.object.now) ∷ rest
 
-abbrev pub left : Walk → List (List ℕ × Object)
-left w = left_from w.ahead w.rest
+abbrev pub entries_left : Walk → List (List ℕ × Object)
+entries_left w = left_from w.ahead w.rest
 
 -- the keys that are left to meet
 abbrev pub keys_left : Walk → List (List ℕ)
-keys_left w = keys_shown w.prefix.now w.slash (keys_of (left w))
+keys_left w = keys_shown w.prefix.now w.slash (keys_of (entries_left w))
 
 -- the entry begins with the prefix, and what is left agrees with all entries from any later name on
 pub record IsAhead (entries : List (List ℕ × Object)) (prefix : List ℕ) (left : List (List ℕ × Object)) (a : Ahead) : Type 0 where
@@ -34,9 +34,9 @@ pub record IsAhead (entries : List (List ℕ × Object)) (prefix : List ℕ) (le
 
 -- what is left is in order, and is what the map has
 pub record IsWalk (w : Walk) : Type 0 where
-  pub ordered : IsStrictlySortedBy text_cmp (keys_of (left w))
-  pub found : AllByRecursion (λ e. lookup (is_at (text_cmp e.0)) w.objects.now.entries ≡ Some e.1) (left w)
-  pub ahead : IfSome w.ahead (IsAhead w.objects.now.entries w.prefix.now (left w))
+  pub ordered : IsStrictlySortedBy text_cmp (keys_of (entries_left w))
+  pub found : AllByRecursion (λ e. lookup (is_at (text_cmp e.0)) w.objects.now.entries ≡ Some e.1) (entries_left w)
+  pub ahead : IfSome w.ahead (IsAhead w.objects.now.entries w.prefix.now (entries_left w))
 
 -- the walks are over one map, for one listing
 pub record SameListing (v w : Walk) : Type 0 where

@@ -48,7 +48,7 @@ pub fn page(
     close(alloc, walk, shown)
 }
 
-// The page with the last key that it may show, which is its `next` where more are left.
+/// The page with the last key that it may show, which is its `next` where more are left.
 fn close(alloc: Global, mut walk: Walk<'_>, mut shown: Shown) -> Result<Page, NoMemory>
     requires { IsWalk walk }
     ensures ok { IfOk result (λ page. page ≡ closed walk.entry.objects.now.entries walk.entry.prefix.now walk.entry.slash (record { items = shown.items.items; prefixes = shown.prefixes.items; next = None }) (keys_left walk.entry)) }
@@ -65,7 +65,7 @@ fn close(alloc: Global, mut walk: Walk<'_>, mut shown: Shown) -> Result<Page, No
     Ok(shown.page(Some(next)))
 }
 
-// The rows of a page.
+/// The rows of a page.
 #[derive(Drop)]
 struct Shown {
     items: Row<Meta>,

@@ -77,7 +77,7 @@ impl<'a> Walk<'a> {
     }
 }
 
-// The first entry that is left, where its name begins with the prefix.
+/// The first entry that is left, where its name begins with the prefix.
 fn ahead_in<'a>(rest: &mut Range<'a, Text, Object>, prefix: &str) -> Option<Ahead<'a>>
     ensures { MatchOption result (Stops prefix.now rest.old) (λ a. (rest.old ≡ (a.name.now, a.object.now) ∷ rest.new) × (a.name.now ≡ prefix.now ++ a.rest.now)) }
 {

@@ -1,2 +1,3 @@
+-- The laws that the proofs of `bucket_plain` cite.
 pub mod Copies
 pub mod Merge

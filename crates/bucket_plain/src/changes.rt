@@ -3,7 +3,7 @@ ghost use Rattle.std.specs.Prelude.{◌≡◌, ◌+◌, ◌^◌, ◌<◌, ◌-�
 ghost use Rattle.bucket_api.specs.Operation.{insert, update, delete, copy, IsAllowed};
 ghost use Rattle.bucket_api.specs.BucketState.{generation_at, metageneration_at, HasRoom, IsStored};
 ghost use Rattle.bucket_api.specs.Metadata.{KeysRise};
-ghost use Rattle.bucket_api.specs.BucketStep.{answer_to, state_after, holds, new_object, with_new, with_pairs};
+ghost use Rattle.bucket_api.specs.BucketStep.{answer_to, state_after, is_met, new_object, with_new, with_pairs};
 
 use crate::pairs::merged;
 use crate::plain::Plain;
@@ -106,7 +106,7 @@ impl Plain {
         }
     }
 
-    // The live generation and metageneration, both 0 where none is live.
+    /// The live generation and metageneration, both 0 where none is live.
     fn numbers(&self, name: &Text) -> (u64, u64)
         ensures generation { result.0 ≡ generation_at self.now name.now }
         ensures metageneration { result.1 ≡ metageneration_at self.now name.now }
@@ -117,7 +117,7 @@ impl Plain {
         }
     }
 
-    // An object with this content, under the next generation.
+    /// An object with this content, under the next generation.
     fn made(
         &self,
         alloc: Global,
@@ -141,7 +141,7 @@ impl Plain {
         Ok(Object { meta, content })
     }
 
-    // The object's content and pairs under another name and the next generation.
+    /// The object's content and pairs under another name and the next generation.
     fn copied(
         &self,
         alloc: Global,
@@ -155,7 +155,7 @@ impl Plain {
         self.made(alloc, to, &object.content, &object.meta.pairs, stamp)
     }
 
-    // Puts an object that has the next generation, and answers what is told of it.
+    /// Puts an object that has the next generation, and answers what is told of it.
     fn put(&mut self, alloc: Global, name: &Text, object: Object) -> Result<Answer, NoMemory>
         requires room { self.old.last < 2 ^ 64 - 1 }
         requires stored { IsStored (self.old.last + 1) name.now object }
@@ -173,9 +173,9 @@ impl Plain {
     }
 }
 
-// Whether a precondition on a number is met. The number is 0 where no object is live.
+/// Whether a precondition on a number is met. The number is 0 where no object is live.
 fn is_met(only: Option<u64>, live: u64) -> bool
-    ensures { result ≡ holds only live }
+    ensures { result ≡ is_met only live }
 {
     match only {
         Some(only) => only == live,
@@ -192,7 +192,7 @@ fn refused(meta: &Meta) -> Answer
     }
 }
 
-// What is told of an object once the pairs are added or put in their places.
+/// What is told of an object once the pairs are added or put in their places.
 fn updated(alloc: Global, live: &Meta, pairs: &Row<Pair>, stamp: u64) -> Result<Meta, NoMemory>
     requires room { live.now.metageneration < 2 ^ 64 - 1 }
     requires rise { KeysRise pairs.now.items }

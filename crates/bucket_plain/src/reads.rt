@@ -69,7 +69,7 @@ impl Plain {
     }
 }
 
-// At most `count` bytes from the place `first` on, none where it lies past the end.
+/// At most `count` bytes from the place `first` on, none where it lies past the end.
 fn part(alloc: Global, content: &Bytes, first: u64, count: u64) -> Result<Bytes, NoMemory>
     ensures ok { IfOk result (λ bytes. bytes ≡ take count (drop first content.now)) }
 {

@@ -1,3 +1,4 @@
+//! The operations by Cloud Storage's table, one after another.
 ghost use Rattle.std.specs.Prelude.{IfOk};
 ghost use Rattle.bucket_api.specs.Metadata.{KeysRise};
 ghost use Rattle.bucket_api.specs.Names.{IsObjectName};

@@ -1,5 +1,4 @@
+-- The laws that the proofs of `mem_bucket` cite.
 pub mod Gathering
-pub mod KeepingLaws
 pub mod PassLaws
-pub mod ScriptLaws
 pub mod Sent

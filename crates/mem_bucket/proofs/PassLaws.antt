@@ -12,25 +12,25 @@ use Rattle.bucket_api.specs.declared.answers.Answer.{Answer}
 use Rattle.bucket_api.specs.declared.events.Mode.{Mode}
 use Rattle.bucket_api.specs.LogEvent.{LogEvent}
 use Rattle.bucket_api.specs.Operation.{Operation, IsAllowed}
-use Rattle.bucket_api.specs.BucketState.{IsBucket}
-use Rattle.bucket_api.specs.Log.{answer_at, answer_by, state_at, FollowsScript}
+use Rattle.bucket_api.specs.BucketState.{BucketState, IsBucket}
+use Rattle.bucket_api.specs.Log.{answer_at, FollowsScript}
 use Rattle.bucket_api.specs.Scripts.{FaultsByScript}
-use Rattle.bucket_api.specs.Passes.{Origin, PassState, LogGoesOn, SeesMore, IsSound, Counts, Acts}
-use Rattle.bucket_api.proofs.LogLaws.{answer_at-pushed, fault_by}
-use Rattle.mem_bucket.specs.BucketLog.{BucketLog, home_of, MayMake}
-use Rattle.mem_bucket.specs.Keeping.{Makes, next_event}
+use Rattle.bucket_api.specs.Passes.{Origin, PassState, LogGoesOn, SeesMore, IsBucketPass, faults_after, Acts}
+use Rattle.logged_bucket.specs.LoggedState.{LoggedState}
+use Rattle.mem_bucket.specs.Homes.{home_of, MayMake}
+use Rattle.logged_bucket.specs.Logging.{MakesEvent, next_event}
 use Rattle.mem_bucket.specs.MemPasses.{origin_of, pass_of, IsSeated}
 
 -- a seat of the lock
 abbrev Place : Type 0
-Place = SeatState BucketLog LogEvent
+Place = SeatState LoggedState LogEvent
 
 -- the log goes on as the book does, since each event has its maker's lane
 pub log_goes_on : (held : Numbers) (seen list : List (Line LogEvent)) → AllMade MayMake list → GoesOn held seen list → LogGoesOn held (entries_of seen) (entries_of list)
 log_goes_on held seen list made =
     GoesOnBy-map maker (λ e. e.lane) (λ x. x.entry) held seen list (All-weaker (λ x. MayMake x.by x.entry) (λ x. x.entry.lane ≡ x.by) (λ x may. may.0) list made)
 
-pub sound : (seat : Place) (lane faults : ℕ) → IsSeated seat lane → IsSound (pass_of seat faults)
+pub sound : (seat : Place) (lane faults : ℕ) → IsSeated seat lane → IsBucketPass (pass_of seat faults)
 sound seat lane faults seated = record {
   start = seated.start;
   asked = All-map (λ e. IsAllowed e.op) (λ x. x.entry) seat.seen (All-weaker (λ x. MayMake x.by x.entry) (λ x. IsAllowed x.entry.op) (λ x may. may.1) seat.seen seated.made);
@@ -55,14 +55,14 @@ pub still_seated : (old new : Place) (lane : ℕ) → IsSeated old lane → new 
 still_seated old new lane seated kept made = record {
   outside = ap (λ (s : Place). s.entered) kept ∙ seated.outside;
   number = ap (λ (s : Place). s.number) kept ∙ seated.number;
-  start = subst (λ (l : Lock BucketLog). IsBucket l.first.start) (sym (ap (λ (s : Place). s.lock) kept)) seated.start;
+  start = subst (λ (l : Lock LoggedState). IsBucket l.first.start) (sym (ap (λ (s : Place). s.lock) kept)) seated.start;
   made = made;
 }
 
 -- a pass to this bucket has its seat at this bucket's lock
-pub same_first : (seat : Place) (faults : ℕ) (pass : PassState (Lock BucketLog)) (bucket turn : Lock BucketLog) → pass_of seat faults ≡ pass → pass.origin ≡ origin_of bucket → turn ≡ bucket → seat.lock.first ≡ turn.first
+pub same_first : (seat : Place) (faults : ℕ) (pass : PassState (Lock LoggedState)) (bucket turn : Lock LoggedState) → pass_of seat faults ≡ pass → pass.origin ≡ origin_of bucket → turn ≡ bucket → seat.lock.first ≡ turn.first
 same_first seat faults pass bucket turn is fits same =
-    ap (λ (l : Lock BucketLog). l.first) (ap (λ (p : PassState (Lock BucketLog)). p.origin.identity) is ∙ (ap (λ (o : Origin (Lock BucketLog)). o.identity) fits ∙ sym same))
+    ap (λ (l : Lock LoggedState). l.first) (ap (λ (p : PassState (Lock LoggedState)). p.origin.identity) is ∙ (ap (λ (o : Origin (Lock LoggedState)). o.identity) fits ∙ sym same))
 
 -- of two lists that a seat takes in, each may be made, so may the longer
 pub made_longer : (xs ys : List (Line LogEvent)) → AllMade MayMake xs → AllMade MayMake ys → AllMade MayMake (longer xs ys)
@@ -73,19 +73,19 @@ made_longer xs ys a b = by (nat_lt (length xs) (length ys))
     by false = a
 
 -- What is known of the seat of a pass before a turn, in it, once its entry is made and once it has left, and of what the lock kept before and after
-pub record IsTurn (first before after : BucketLog) (old inside wrote left : Place) (lane moment : ℕ) (op : Operation) (answer : Answer) : Type 0 where
+pub record IsTurn (first before after : LoggedState) (old inside wrote left : Place) (lane moment : ℕ) (op : Operation) (answer : Answer) : Type 0 where
   pub seated : IsSeated old lane
   pub lock : old.lock.first ≡ first
   pub stood : StandsFor (λ k. k.log) home_of MayMake first inside.seen before
   pub meanwhile : GoesOn old.held old.seen inside.seen
   pub enters : inside ≡ record old { seen = inside.seen; entered = true }
   pub may : IsAllowed op
-  pub made : Makes lane op before after moment answer
+  pub made : MakesEvent lane op before after moment answer
   pub added : Appends after.log inside wrote
   pub writes : wrote ≡ record inside { seen = wrote.seen; mine = wrote.mine }
   pub leaves : left ≡ record wrote { entered = false }
 
-module _ {first before after : BucketLog} {old inside wrote left : Place} {lane moment : ℕ} {op : Operation} {answer : Answer} (t : IsTurn first before after old inside wrote left lane moment op answer) where
+module _ {first before after : LoggedState} {old inside wrote left : Place} {lane moment : ℕ} {op : Operation} {answer : Answer} (t : IsTurn first before after old inside wrote left lane moment op answer) where
   abbrev event : LogEvent
   event = next_event before lane op
 
@@ -93,11 +93,11 @@ module _ {first before after : BucketLog} {old inside wrote left : Place} {lane 
   signed = (sym (ap (λ (s : Place). s.number) t.enters ∙ t.seated.number), t.may)
 
   added_to : after.log ≡ before.log ++ event ∷ []
-  added_to = ap (λ (k : BucketLog). k.log) t.made.log
+  added_to = ap (λ (k : LoggedState). k.log) t.made.log
 
   -- what the lock keeps stands for what the seat has then seen
-  pub stands : StandsFor (λ (k : BucketLog). k.log) home_of MayMake first wrote.seen after
-  stands = stands_after_append (λ (k : BucketLog). k.log) home_of MayMake first inside wrote before after event t.stood added_to (ap home_of t.made.log) signed t.added
+  pub stands : StandsFor (λ (k : LoggedState). k.log) home_of MayMake first wrote.seen after
+  stands = stands_after_append (λ (k : LoggedState). k.log) home_of MayMake first inside wrote before after event t.stood added_to (ap home_of t.made.log) signed t.added
 
   last : left ≡ record old { seen = left.seen; mine = left.mine }
   last = t.leaves ∙ (ap (λ (s : Place). record s { entered = false }) t.writes
@@ -112,7 +112,7 @@ module _ {first before after : BucketLog} {old inside wrote left : Place} {lane 
   seated_after = record {
     outside = ap (λ (s : Place). s.entered) last ∙ t.seated.outside;
     number = ap (λ (s : Place). s.number) last ∙ t.seated.number;
-    start = subst (λ (l : Lock BucketLog). IsBucket l.first.start) (sym (ap (λ (s : Place). s.lock) last)) t.seated.start;
+    start = subst (λ (l : Lock LoggedState). IsBucket l.first.start) (sym (ap (λ (s : Place). s.lock) last)) t.seated.start;
     made = subst (AllMade MayMake) (sym seen_last) stands.made;
   }
 
@@ -124,7 +124,7 @@ module _ {first before after : BucketLog} {old inside wrote left : Place} {lane 
   pushed = whole ∙ added_to
 
   start_is : before.start ≡ old.lock.first.start
-  start_is = ap (λ h. h.0) t.stood.at_home ∙ sym (ap (λ (k : BucketLog). k.start) t.lock)
+  start_is = ap (λ h. h.0) t.stood.at_home ∙ sym (ap (λ (k : LoggedState). k.start) t.lock)
 
   own_event : event ≡ record { lane = old.number; op = op; mode = event.mode }
   own_event = ap (λ n. record { lane = n; op = op; mode = event.mode }) (sym t.seated.number)
@@ -136,14 +136,10 @@ module _ {first before after : BucketLog} {old inside wrote left : Place} {lane 
 
   answered : answer_at old.lock.first.start (entries_of left.seen) moment ≡ Some answer
   answered =
-      let at : moment ≡ length (before.log ++ event ∷ []) = t.made.place ∙ ap length added_to in
-      ap (λ l. answer_at old.lock.first.start l moment) pushed
-      ∙ (ap (answer_at old.lock.first.start (before.log ++ event ∷ [])) at
-      ∙ (answer_at-pushed old.lock.first.start before.log event
-      ∙ (ap (λ b. Some (answer_by event.mode op (state_at b before.log (length before.log)))) (sym start_is)
-      ∙ ap Some (sym t.made.answered))))
+      let start : after.start ≡ old.lock.first.start = ap (λ (k : LoggedState). k.start) t.made.log ∙ start_is in
+      subst (λ (x : BucketState × List LogEvent). answer_at x.0 x.1 moment ≡ Some answer) (λ k. (start k, (sym whole) k)) t.made.answered
 
-  pub acted : (faults faults' : ℕ) → Counts answer faults faults' → Acts op (pass_of old faults) (pass_of left faults') moment answer
+  pub acted : (faults faults' : ℕ) → faults' ≡ faults_after answer faults → Acts op (pass_of old faults) (pass_of left faults') moment answer
   acted faults faults' counts = record {
     before = entries_of inside.seen;
     mode = event.mode;
@@ -159,8 +155,4 @@ module _ {first before after : BucketLog} {old inside wrote left : Place} {lane 
   follows = subst (λ (x : List (ℕ × Mode) × List LogEvent). FollowsScript x.0 x.1) (λ k. ((ap (λ h. h.1) (ap home_of t.made.log ∙ t.stood.at_home)) k, (sym whole) k)) t.made.follows
 
   pub faults_by_script : FaultsByScript first.script moment answer
-  faults_by_script =
-      let script : before.script ≡ first.script = ap (λ h. h.1) t.stood.at_home in
-      let at : length before.log + 1 ≡ moment = sym (t.made.place ∙ (ap length added_to ∙ length-append before.log (event ∷ []))) in
-      let by_mode : FaultsByScript before.script (length before.log + 1) (answer_by event.mode op (state_at before.start before.log (length before.log))) = fault_by event.mode op (state_at before.start before.log (length before.log)) in
-      subst (λ (x : List (ℕ × Mode) × ℕ × Answer). FaultsByScript x.0 x.1 x.2) (λ k. (script k, at k, (sym t.made.answered) k)) by_mode
+  faults_by_script = subst (λ script. FaultsByScript script moment answer) (ap (λ h. h.1) (ap home_of t.made.log ∙ t.stood.at_home)) t.made.by_script

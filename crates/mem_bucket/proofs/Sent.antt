@@ -12,6 +12,7 @@ use Rattle.bucket_api.specs.contracts.events.Event.{the_row as event_row}
 use Rattle.bucket_api.specs.contracts.events.Event.TheInside as inside
 use denote.Struct.Declared.{shape}
 use Rattle.bucket_plain.specs.contracts.plain.Plain.{the_row as plain_row}
+use Rattle.logged_bucket.specs.contracts.logged_bucket.LoggedBucket.{the_row as logged_row}
 use Rattle.turn_lock.proofs.Sent.{seat_sent, turn_shared}
 use Rattle.mem_bucket.specs.contracts.kept.KeptBooked.TheImpl.{ghosts}
 use Rattle.mem_bucket.specs.contracts.kept.Kept.{the_row as kept_row}
@@ -47,8 +48,11 @@ event_sent = search (sendable, inside_sent) depth 30
 plain_sent : IsSend plain_row
 plain_sent = search (sendable, crosses, maps.crosses, object_sent) depth 30
 
+logged_sent : IsSend logged_row
+logged_sent = search (sendable, crosses, plain_sent, event_sent) depth 30
+
 pub kept_sent : IsSend kept_row
-kept_sent = search (sendable, crosses, plain_sent, event_sent) depth 30
+kept_sent = search (sendable, crosses, logged_sent) depth 30
 
 pass_inside_sent : IsSend pass.the_row
 pass_inside_sent = recorded_send pass.the_field.row _ _ pass.the_type.to_one (struct_send (shape pass.the_type) (seat_sent kept_row event_row ghosts kept_sent, (search sendable, (search sendable, tt))))

@@ -1,3 +1,3 @@
-pub mod BucketLog
-pub mod Keeping
+-- The words that the contracts of `mem_bucket` cite.
+pub mod Homes
 pub mod MemPasses

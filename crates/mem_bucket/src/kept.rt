@@ -1,56 +1,39 @@
 //! What the lock of a shared bucket keeps.
-ghost use Rattle.std.specs.Prelude.{◌≡◌, ◌≤◌, ◌^◌, ◌-◌, [], length, IfOk, OnOk, OnErr};
+ghost use Rattle.std.specs.Prelude.{◌≡◌, ◌^◌, ◌-◌, [], length, IfOk, OnErr};
 ghost use Rattle.bucket_api.specs.Operation.{operation, IsAllowed};
-ghost use Rattle.bucket_api.specs.BucketState.{IsBucket, IsWithin, HasRoom};
-ghost use Rattle.bucket_api.specs.Log.{state_at, state_by, answer_by, FollowsScript};
+ghost use Rattle.bucket_api.specs.BucketState.{IsWithin};
+ghost use Rattle.bucket_api.specs.Log.{state_at, FollowsScript};
 ghost use Rattle.bucket_api.specs.Scripts.{script_of, IsScript};
-ghost use Rattle.mem_bucket.specs.BucketLog.{home_of, MayMake};
-ghost use Rattle.mem_bucket.specs.Keeping.{Makes};
+ghost use Rattle.logged_bucket.specs.Logging.{MakesEvent};
 
-use crate::script::next_mode;
-use bucket_api::{Answer, Event, Mode, Op, Scripted};
+use bucket_api::{Answer, Event, Op, Scripted};
 use bucket_plain::Plain;
 use io_ports::{NoMemory, Row};
+use logged_bucket::LoggedBucket;
 use std::alloc::Global;
 use std::marker::Model;
-use std::snapshot::Snapshot;
 use turn_lock::Booked;
 
-/// The most events of a log: one less than a book has room for.
-const MOST_EVENTS: u64 = (1 << 63) - 1;
-
-/// What the lock keeps: a bucket with its log and the script of its faults. It stands for the log, and its home is the
-/// bucket before the log, with the script.
+/// What the lock keeps: a bucket with its log. It stands for the log, and its home is the bucket before the log, with
+/// the script.
 #[derive(Drop)]
 pub struct Kept {
-    bucket: Plain,
-    log: Row<Event>,
-    script: Row<Scripted>,
-    /// How much of the script is behind: its first moments, up to the last event's.
-    behind: usize,
-    /// The bucket before the log, which has no bytes.
-    start: Snapshot<Plain>,
+    logged: LoggedBucket,
 }
 
 impl Model for Kept {
-    ghost use Rattle.std.specs.Prelude.{drop};
-    ghost use Rattle.bucket_api.specs.Scripts.{script_of};
-    ghost use Rattle.mem_bucket.specs.BucketLog.{BucketLog};
+    ghost use Rattle.logged_bucket.specs.LoggedState.{LoggedState};
 
-    ghost Value = { BucketLog };
+    ghost Value = { LoggedState };
 
-    ghost use Rattle.mem_bucket.specs.Keeping.{IsKept};
-
-    ghost view = { λ k. record { start = k.start.value; script = script_of k.script.items; log = k.log.items } };
-
-    ghost invariant = { λ k. IsKept (record { start = k.start.value; script = script_of k.script.items; log = k.log.items }) k.bucket (drop k.behind (script_of k.script.items)) };
+    ghost view = { λ k. k.logged };
 }
 
 impl Booked for Kept {
     ghost use Rattle.std.specs.Prelude.{ℕ, List};
     ghost use Rattle.bucket_api.specs.declared.events.Mode.{Mode};
     ghost use Rattle.bucket_api.specs.BucketState.{BucketState};
-    ghost use Rattle.mem_bucket.specs.BucketLog.{home_of, MayMake};
+    ghost use Rattle.mem_bucket.specs.Homes.{home_of, MayMake};
 
     type Entry = Event;
 
@@ -70,14 +53,8 @@ impl Kept {
         requires small { IsWithin (2 ^ 62 - 1) start }
         ensures { result ≡ record { start = start; script = script_of script.items; log = [] } }
     {
-        let before = Snapshot::of(&start);
-        start.last();
         Kept {
-            bucket: start,
-            log: Row::new(alloc),
-            script,
-            behind: 0,
-            start: before,
+            logged: LoggedBucket::new(alloc, start, script),
         }
     }
 
@@ -92,19 +69,10 @@ impl Kept {
         op: Op,
     ) -> Result<(u64, Answer), NoMemory>
         requires may { IsAllowed (operation op) }
-        ensures ok { IfOk result (λ r. Makes lane (operation op) self.old self.new r.0 r.1) }
+        ensures ok { IfOk result (λ r. MakesEvent lane (operation op) self.old self.new r.0 r.1) }
         ensures err { OnErr result (self.new ≡ self.old) }
     {
-        let events = self.log.len();
-        if events >= MOST_EVENTS {
-            return Err(NoMemory);
-        }
-        self.log.reserve(1)?;
-        let (mode, behind) = next_mode(self.script.as_slice(), self.behind, events);
-        let answer = apply_by(&mut self.bucket, alloc, mode, &op)?;
-        self.log.push(Event { lane, op, mode });
-        self.behind = behind;
-        Ok((events + 1, answer))
+        self.logged.act(alloc, lane, op)
     }
 
     /// The bucket after its log, and the log.
@@ -113,31 +81,7 @@ impl Kept {
         ensures log { result.1.items ≡ self.log }
         ensures script { FollowsScript self.script self.log }
     {
-        let Kept {
-            bucket,
-            log,
-            script: _,
-            behind: _,
-            start: _,
-        } = self;
-        (bucket, log)
-    }
-}
-
-/// Makes an operation in a mode: one that fails has no effect, and one whose answer is lost has its whole effect.
-fn apply_by(bucket: &mut Plain, alloc: Global, mode: Mode, op: &Op) -> Result<Answer, NoMemory>
-    requires room { HasRoom bucket.old }
-    requires may { IsAllowed (operation op.now) }
-    ensures ok { IfOk result (λ answer. answer ≡ answer_by mode (operation op.now) bucket.old) }
-    ensures after { OnOk result (bucket.new ≡ state_by mode (operation op.now) bucket.old) }
-    ensures kept { OnErr result (bucket.new ≡ bucket.old) }
-{
-    match mode {
-        Mode::Done => bucket.apply(alloc, op),
-        Mode::Failed => Ok(Answer::Fault),
-        Mode::Lost => {
-            bucket.apply(alloc, op)?;
-            Ok(Answer::Fault)
-        }
+        let Kept { logged } = self;
+        logged.into_parts()
     }
 }

@@ -4,7 +4,6 @@
 mod kept;
 mod mem_bucket;
 mod mem_pass;
-mod script;
 #[cfg(test)]
 mod tests;
 

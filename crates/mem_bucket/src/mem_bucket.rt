@@ -7,8 +7,8 @@ ghost use Rattle.bucket_api.specs.Operation.{operation, IsAllowed};
 ghost use Rattle.bucket_api.specs.BucketState.{IsWithin};
 ghost use Rattle.bucket_api.specs.Log.{state_at, FollowsScript};
 ghost use Rattle.bucket_api.specs.Scripts.{script_of, IsScript, FaultsByScript};
-ghost use Rattle.bucket_api.specs.Passes.{LogGoesOn, SeesMore, IsSound, Acts, Counts, first_pass, split_pass, both_faults};
-ghost use Rattle.mem_bucket.specs.BucketLog.{BucketLog};
+ghost use Rattle.bucket_api.specs.Passes.{LogGoesOn, SeesMore, IsBucketPass, Acts, faults_after, first_pass, split_pass, both_faults};
+ghost use Rattle.logged_bucket.specs.LoggedState.{LoggedState};
 ghost use Rattle.mem_bucket.specs.MemPasses.{origin_of};
 
 use crate::kept::Kept;
@@ -32,9 +32,9 @@ pub struct MemBucket {
 
 impl Model for MemBucket {
     ghost use Rattle.turn_lock.specs.Seats.{Lock};
-    ghost use Rattle.mem_bucket.specs.BucketLog.{BucketLog};
+    ghost use Rattle.logged_bucket.specs.LoggedState.{LoggedState};
 
-    ghost Value = { Lock BucketLog };
+    ghost Value = { Lock LoggedState };
 
     ghost view = { λ b. b.turn };
 }
@@ -83,12 +83,12 @@ impl MemBucket {
 
 impl Bucket for MemBucket {
     ghost use Rattle.turn_lock.specs.Seats.{Lock};
-    ghost use Rattle.mem_bucket.specs.BucketLog.{BucketLog};
+    ghost use Rattle.logged_bucket.specs.LoggedState.{LoggedState};
     ghost use Rattle.mem_bucket.specs.MemPasses.{origin_of};
 
     type Pass = MemPass;
 
-    ghost Identity = { Lock BucketLog };
+    ghost Identity = { Lock LoggedState };
 
     ghost origin = { origin_of };
 
@@ -110,7 +110,7 @@ impl Bucket for MemBucket {
         ensures err { OnErr result (SeesMore pass.old pass.new) }
         ensures kept { pass.new ≡ record pass.old { seen = pass.new.seen; mine = pass.new.mine; faults = pass.new.faults } }
         ensures faults { pass.old.faults ≤ pass.new.faults }
-        ensures sound { IsSound pass.new }
+        ensures valid { IsBucketPass pass.new }
         ensures script { OnOk result (FollowsScript self.now.first.script pass.new.seen) }
         ensures scripted { IfOk result (λ r. FaultsByScript self.now.first.script r.0 r.1) }
     {
@@ -152,7 +152,7 @@ impl Bucket for MemBucket {
 
 /// The count of faults after an answer.
 fn count(faults: u64, answer: &Answer) -> u64
-    ensures counted { Counts answer.now faults result }
+    ensures counted { result ≡ faults_after answer.now faults }
     ensures kept { faults ≤ result }
 {
     match answer {

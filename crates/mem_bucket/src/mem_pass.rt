@@ -17,10 +17,10 @@ pub struct MemPass {
 impl Model for MemPass {
     ghost use Rattle.turn_lock.specs.Seats.{Lock};
     ghost use Rattle.bucket_api.specs.Passes.{PassState};
-    ghost use Rattle.mem_bucket.specs.BucketLog.{BucketLog};
+    ghost use Rattle.logged_bucket.specs.LoggedState.{LoggedState};
     ghost use Rattle.mem_bucket.specs.MemPasses.{pass_of, IsSeated};
 
-    ghost Value = { PassState (Lock BucketLog) };
+    ghost Value = { PassState (Lock LoggedState) };
 
     ghost view = { λ p. pass_of p.seat p.faults };
 

@@ -1,16 +1,17 @@
+-- The pass has made one event under the lock, or has come back from it for want of memory.
 use Rattle.std.proofs.Common.{◌≡◌, refl, sym, ap, subst}
 use Rattle.turn_lock.specs.Book.{AllMade, GoesOn, entries_of}
 use Rattle.bucket_api.specs.Operation.{operation, IsAllowed}
 use Rattle.bucket_api.specs.Log.{FollowsScript}
 use Rattle.bucket_api.specs.Scripts.{FaultsByScript}
-use Rattle.bucket_api.specs.Passes.{SeesMore, IsSound, Acts}
-use Rattle.mem_bucket.specs.BucketLog.{MayMake}
+use Rattle.bucket_api.specs.Passes.{SeesMore, IsBucketPass, Acts}
+use Rattle.mem_bucket.specs.Homes.{MayMake}
 use Rattle.mem_bucket.specs.MemPasses.{pass_of}
 use Rattle.mem_bucket.proofs.PassLaws.{IsTurn, sound, sees_more, came_back, still_seated, same_first, stands, seated_after, acted, follows, faults_by_script}
 use Rattle.mem_bucket.proofs.mem_bucket.MemBucketBucket.act.Goals as goal
 
-pub returns-in_err-op-clause-sound : goal.returns-in_err-op-clause-sound
-returns-in_err-op-clause-sound g c = subst IsSound c.pass.view_is (sound c.pass.inside.seat c.pass.inside.lane c.pass.inside.faults c.pass.invariant)
+pub returns-in_err-op-clause-valid : goal.returns-in_err-op-clause-valid
+returns-in_err-op-clause-valid g c = subst IsBucketPass c.pass.view_is (sound c.pass.inside.seat c.pass.inside.lane c.pass.inside.faults c.pass.invariant)
 
 -- ---- no memory: the seat has come back
 
@@ -28,8 +29,8 @@ returns-in_default-clause-err g c = let seat = c.pass.inside.seat in
     subst (λ p. SeesMore p (pass_of c.leave.new.seat c.pass.inside.faults)) c.pass.view_is
     (sees_more seat c.leave.new.seat c.pass.inside.faults (made_back g c) (subst (GoesOn seat.held seat.seen) (seen_back g c) c.enter-kept.ensures.seen) (back g c))
 
-pub returns-in_default-clause-sound : goal.returns-in_default-clause-sound
-returns-in_default-clause-sound g c =
+pub returns-in_default-clause-valid : goal.returns-in_default-clause-valid
+returns-in_default-clause-valid g c =
     sound c.leave.new.seat c.pass.inside.lane c.pass.inside.faults (still_seated c.pass.inside.seat c.leave.new.seat c.pass.inside.lane c.pass.invariant (back g c) (made_back g c))
 
 -- ---- the event was made
@@ -72,8 +73,8 @@ returns-clause-ok g c = let now = pass_of c.leave-2.new.seat c.count-pass-inside
     (subst (λ p. Acts (operation c.in_ok-op.op) p now c.in-Ok.moment c.in-Ok.answer) c.pass.view_is
     (acted (turn g c) c.pass.inside.faults c.count-pass-inside.result c.count-pass-inside.ensures.counted))
 
-pub returns-clause-sound : goal.returns-clause-sound
-returns-clause-sound g c = sound c.leave-2.new.seat c.pass.inside.lane c.count-pass-inside.result (seated_after (turn g c))
+pub returns-clause-valid : goal.returns-clause-valid
+returns-clause-valid g c = sound c.leave-2.new.seat c.pass.inside.lane c.count-pass-inside.result (seated_after (turn g c))
 
 pub returns-clause-script : goal.returns-clause-script
 returns-clause-script g c = subst (λ b. FollowsScript b.first.script (entries_of c.leave-2.new.seat.seen)) c.self.view_is (follows (turn g c))

@@ -1,7 +1,8 @@
+-- What both passes had seen goes on to what the one has seen then.
 use Rattle.std.proofs.Common.{sym, ap, subst}
 use Rattle.turn_lock.specs.Book.{entries_of, AllMade}
 use Rattle.bucket_api.specs.Passes.{LogGoesOn}
-use Rattle.mem_bucket.specs.BucketLog.{MayMake}
+use Rattle.mem_bucket.specs.Homes.{MayMake}
 use Rattle.mem_bucket.proofs.PassLaws.{log_goes_on, made_longer}
 use Rattle.mem_bucket.proofs.mem_bucket.MemBucketBucket.meet.Goals as goal
 

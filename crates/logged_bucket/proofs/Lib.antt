@@ -1,0 +1,3 @@
+-- The laws that the proofs of `logged_bucket` cite.
+pub mod LoggingLaws
+pub mod ScriptLaws

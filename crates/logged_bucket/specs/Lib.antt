@@ -1,0 +1,3 @@
+-- The words that the contracts of `logged_bucket` cite.
+pub mod LoggedState
+pub mod Logging

@@ -1,5 +1,0 @@
-use Rattle.std.proofs.Common.{◌≡◌}
-use Rattle.mem_bucket.proofs.tests.work.Given as goal
-
-abbrev pub invariant-loop-number : goal.invariant-loop-number
-invariant-loop-number g l = l.pass ≡ record l.initial.pass { seen = l.pass.seen; mine = l.pass.mine; faults = l.pass.faults }
