@@ -1,6 +1,6 @@
 -- What contracts see of a table of nodes, and what each call makes of it. A node is a number that the kernel holds: it
 -- was given it by so many look-ups, and gives them back by FORGET (fuse.h: `nodeid`, and `nlookup` of `fuse_forget_in`).
-use Rattle.std.specs.Prelude.{ℕ, ◌+◌, ◌-◌, Bool, false, ◌&&◌, ◌||◌, List, [], Option, Some, None, nat_lt, nat_le, nat_eq, ◌==◌, if◌then◌else◌, is_some}
+use Rattle.std.specs.Prelude.{◌≡◌, ℕ, ◌+◌, ◌-◌, ◌<◌, ◌≤◌, Bool, true, false, ◌&&◌, ◌||◌, List, [], Option, Some, None, IsSome, nat_lt, nat_le, nat_eq, ◌==◌, if◌then◌else◌, is_some, option_and_then}
 use Rattle.std.specs.Cmp.Lexicographic.{slice_cmp}
 use Rattle.std.specs.FinMap as fin
 use Rattle.std.specs.Option.{option_map_or}
@@ -50,6 +50,10 @@ is_live number inode = number == root_number || nat_lt 0 inode.lookups
 abbrev pub lookups_of : {F : Type 0} → Inodes F → ℕ → ℕ
 lookups_of {F} table number = option_map_or (λ (inode : Inode F). inode.lookups) (fin.get table.nodes number) 0
 
+-- its parts of a file, none where it is not there or is a directory
+abbrev pub file_of : {F : Type 0} → Inodes F → ℕ → Option F
+file_of {F} table number = option_and_then (λ (inode : Inode F). inode.file) (fin.get table.nodes number)
+
 -- ---- what calls make of the table
 -- the node under its number
 abbrev pub with_inode : {F : Type 0} → Inodes F → ℕ → Inode F → Inodes F
@@ -66,6 +70,14 @@ granted table inode = record {
 -- one more look-up
 abbrev pub looked_up : {F : Type 0} → Inode F → Inode F
 looked_up inode = record inode { lookups = inode.lookups + 1 }
+
+abbrev pub looked : {F : Type 0} → Inodes F → ℕ → Inodes F
+looked {F} table number = option_map_or (λ (inode : Inode F). with_inode table number (looked_up inode)) (fin.get table.nodes number) table
+
+-- other parts of a file, of a node that is there
+abbrev pub with_file : {F : Type 0} → Inodes F → ℕ → F → Inodes F
+with_file {F} table number file =
+    option_map_or (λ (inode : Inode F). with_inode table number (record inode { file = Some file })) (fin.get table.nodes number) table
 
 -- a file or symlink stays while a handle holds it; a directory does not, and its handles go on without it
 abbrev pub left_without : {F : Type 0} → Nodes F → ℕ → Bool → Inode F → Nodes F
@@ -97,3 +109,22 @@ let_go {F} table number =
 -- a name has no current node
 abbrev pub detached : {F : Type 0} → Inodes F → List ℕ → Inodes F
 detached table name = record table { current = fin.remove table.current name }
+
+-- a node becomes the current one of its name
+abbrev pub made_current : {F : Type 0} → Inodes F → ℕ → List ℕ → Inodes F
+made_current table number name = record table { current = fin.insert table.current name number }
+
+-- ---- what holds of every table
+-- the node is there, has this name, and is live
+pub record IsLiveUnder {F : Type 0} (table : Inodes F) (name : List ℕ) (number : ℕ) : Type 0 where
+  pub inode : Inode F
+  pub there : fin.get table.nodes number ≡ Some inode
+  pub named : inode.name ≡ name
+  pub live : is_live number inode ≡ true
+
+-- The root is there. Every node has a number that was given before, and a name's current node is live and has that name.
+pub record IsTable {F : Type 0} (table : Inodes F) : Type 0 where
+  pub first : 2 ≤ table.next
+  pub root_stays : IsSome (fin.get table.nodes root_number)
+  pub given : (number : ℕ) (inode : Inode F) → fin.get table.nodes number ≡ Some inode → number < table.next
+  pub own_name : (name : List ℕ) (number : ℕ) → fin.get table.current name ≡ Some number → IsLiveUnder table name number
