@@ -12,7 +12,7 @@ use Rattle.object_names.specs.declared.component.NameFault.TheVariants.{TooLong}
 use Rattle.object_names.specs.declared.shown.DirItem.{DirItem}
 use Rattle.object_names.specs.declared.shown.NodeKind.{NodeKind}
 use Rattle.object_names.specs.declared.shown.NodeKind.TheVariants.{Dir, File, Symlink}
-use Rattle.mount_rules.specs.Errno.{ebadf, enametoolong, enomem, enotdir, estale}
+use Rattle.fuse_replies.specs.Errno.{ebadf, enametoolong, enomem, enotdir, estale}
 use Rattle.mount_rules.specs.Guards.{entries_opened, errno_of_fault, in_directory, is_directory, on_live, on_open_directory, part_refusal}
 use Rattle.mount_rules.specs.View.{Sight, child_of}
 

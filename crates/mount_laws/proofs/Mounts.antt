@@ -8,11 +8,11 @@ use Rattle.std.specs.Cmp.Lexicographic.{slice_cmp}
 use Rattle.std.specs.FinMap as fin
 use Rattle.std.specs.Option.{option_map_or}
 use Rattle.handle_table.specs.Handles.{Opened}
-use Rattle.inode_spec.specs.Inodes.{Names, first_table, forgotten_at, granted, is_live, left_without, root, with_inode, without_current}
+use Rattle.inode_spec.specs.Inodes.{IsLiveUnder, Names, first_table, forgotten_at, granted, is_live, left_without, root, with_inode, without_current}
 use Rattle.object_names.specs.Components.{IsComponent}
 use Rattle.object_names.specs.Paths.{IsPrefix, prefix_of}
 use Rattle.mount_rules.specs.Laws.{GivesLater}
-use Rattle.mount_rules.specs.Mount.{File, IsCurrent, IsMount, IsNameOf, MountModel, Node, NodeTable, OpenHandles, first_mount}
+use Rattle.mount_rules.specs.Mount.{File, IsMount, IsNameOf, MountModel, Node, NodeTable, OpenHandles, first_mount}
 use Rattle.mount_laws.proofs.Keeping.{no_Some, same_Some}
 use Rattle.spare_maps.proofs.FinMaps.{number_put, number_put_same, number_put_other, number_taken, number_taken_other, name_put, name_taken}
 
@@ -21,7 +21,7 @@ pub record IsNodeTable (table : NodeTable) : Type 0 where
   pub first : 2 ≤ table.next
   pub nodes : (number : ℕ) (node : Node) → fin.get table.nodes number ≡ Some node → number < table.next
   pub names : (number : ℕ) (node : Node) → fin.get table.nodes number ≡ Some node → IsNameOf node.kind node.name
-  pub current : (name : List ℕ) (number : ℕ) → fin.get table.current name ≡ Some number → IsCurrent table name number
+  pub current : (name : List ℕ) (number : ℕ) → fin.get table.current name ≡ Some number → IsLiveUnder table name number
 
 -- the table is one, and gives no number again that an earlier one gave
 pub record TableLater (earlier table : NodeTable) : Type 0 where
@@ -62,19 +62,19 @@ module _ (table : NodeTable) (is : IsNodeTable table) where
           on (inl (same, one)) = subst P one (put same one)
           on (inr old_one) = was old_one
 
-      stays : (q : List ℕ) (n : ℕ) → IsCurrent table q n → IsCurrent (with_inode table number new) q n
+      stays : (q : List ℕ) (n : ℕ) → IsLiveUnder table q n → IsLiveUnder (with_inode table number new) q n
       stays q n c = on (one_or_two n number)
         where
-          on : (n ≡ number) ⊎ (n ≢ number) → IsCurrent (with_inode table number new) q n
+          on : (n ≡ number) ⊎ (n ≢ number) → IsLiveUnder (with_inode table number new) q n
           on (inl same) =
-              let one : c.node ≡ old = same_Some (sym c.there ∙ ap (fin.get table.nodes) same ∙ there) in
+              let one : c.inode ≡ old = same_Some (sym c.there ∙ ap (fin.get table.nodes) same ∙ there) in
               record {
-                node = new;
+                inode = new;
                 there = ap (fin.get (fin.insert table.nodes number new)) same ∙ number_put_same table.nodes number new;
                 named = name ∙ ap (λ (x : Node). x.name) (sym one) ∙ c.named;
                 live = subst (λ m. is_live m new ≡ true) (sym same) (live (subst (λ m. is_live m old ≡ true) same (subst (λ x. is_live n x ≡ true) one c.live)));
               }
-          on (inr other) = record { node = c.node; there = number_put_other table.nodes number new n other ∙ c.there; named = c.named; live = c.live }
+          on (inr other) = record { inode = c.inode; there = number_put_other table.nodes number new n other ∙ c.there; named = c.named; live = c.live }
 
   -- a new live node becomes the current one of its name
   pub TableLater-granted : (new : Node) → IsNameOf new.kind new.name → 1 ≤ new.lookups → TableLater table (granted table new)
@@ -103,17 +103,17 @@ module _ (table : NodeTable) (is : IsNodeTable table) where
           by true = refl
           by false = grind (arith, nat_tests, given)
 
-      current : (q : List ℕ) (n : ℕ) → ((q ≡ new.name) × (table.next ≡ n)) ⊎ (fin.get table.current q ≡ Some n) → IsCurrent (granted table new) q n
+      current : (q : List ℕ) (n : ℕ) → ((q ≡ new.name) × (table.next ≡ n)) ⊎ (fin.get table.current q ≡ Some n) → IsLiveUnder (granted table new) q n
       current q n (inl (same, next)) = record {
-        node = new;
+        inode = new;
         there = ap (fin.get (fin.insert table.nodes table.next new)) (sym next) ∙ number_put_same table.nodes table.next new;
         named = sym same;
         live = subst (λ m. is_live m new ≡ true) next new_live;
       }
       current q n (inr was) =
           let c = is.current q n was in
-          let low = is.nodes n c.node c.there in
-          record { node = c.node; there = number_put_other table.nodes table.next new n (λ same. absurd (omega (arith, low, same))) ∙ c.there; named = c.named; live = c.live }
+          let low = is.nodes n c.inode c.there in
+          record { inode = c.inode; there = number_put_other table.nodes table.next new n (λ same. absurd (omega (arith, low, same))) ∙ c.there; named = c.named; live = c.live }
 
   -- look-ups of a node other than the root are given back
   pub TableLater-forgotten : (number count : ℕ) (held : Bool) (node : Node) → number ≢ 1 → fin.get table.nodes number ≡ Some node
@@ -141,11 +141,11 @@ module _ (table : NodeTable) (is : IsNodeTable table) where
 
       current_other : (nodes : fin.FinMap nat_cmp Node) → ((n : ℕ) → n ≢ number → fin.get nodes n ≡ fin.get table.nodes n)
           → (q : List ℕ) (n : ℕ) → fin.get (without_current table.current node.name number) q ≡ Some n
-          → IsCurrent (record table { nodes = nodes; current = without_current table.current node.name number }) q n
+          → IsLiveUnder (record table { nodes = nodes; current = without_current table.current node.name number }) q n
       current_other nodes same q n found =
           let left = names_left q n found in
           let c = is.current q n left.1 in
-          record { node = c.node; there = same n left.0 ∙ c.there; named = c.named; live = c.live }
+          record { inode = c.inode; there = same n left.0 ∙ c.there; named = c.named; live = c.live }
 
       put : (n : ℕ) (x : Node) → ((n ≡ number) × (record node { lookups = 0 } ≡ x)) ⊎ (fin.get table.nodes n ≡ Some x) → (n < table.next) × IsNameOf x.kind x.name
       put n x (inl (same, one)) = (is.nodes n node (ap (fin.get table.nodes) same ∙ there), subst (λ (y : Node). IsNameOf y.kind y.name) one (is.names number node there))

@@ -11,7 +11,7 @@ use Rattle.fuse_requests.specs.declared.request.Request.TheVariants.{Lookup, For
 use Rattle.inode_spec.specs.Inodes.{lookups_of}
 use Rattle.mount_model.specs.declared.config.Config.{Config}
 use Rattle.mount_rules.specs.Dispatch.{early, goes_on, is_among, is_idle, is_init, is_silent, mount_after, plan, claims, reply_to, rules_of, served_opcodes, silent_opcodes, taken_at, unread, view_in, wants}
-use Rattle.mount_rules.specs.Errno.{einval, enomem, enosys, eproto}
+use Rattle.fuse_replies.specs.Errno.{einval, enomem, enosys, eproto}
 use Rattle.mount_rules.specs.Laws.{ClaimsCover, ClaimsProtect, GivesLater, IsCovered, Keeps, LeavesOthers, NeverOutOfMemory, StaysMount, given, given_back}
 use Rattle.mount_rules.specs.Mount.{IsMount, MountModel}
 use Rattle.mount_model.specs.Observing.{Observed}

@@ -5,7 +5,7 @@ use Rattle.fuse_replies.specs.declared.reply.Reply.{Reply}
 use Rattle.fuse_replies.specs.declared.reply.Reply.TheVariants.{Error}
 use Rattle.inode_spec.specs.Inodes.{lookups_of}
 use Rattle.mount_model.specs.declared.config.Config.{Config}
-use Rattle.mount_rules.specs.Errno.{enomem, estale}
+use Rattle.fuse_replies.specs.Errno.{enomem, estale}
 use Rattle.mount_rules.specs.Laws.{CountsDecide, GivesLater, IsShortBy, NumbersRise, ShortAreOutOfMemory, count_along, given, given_back}
 use Rattle.mount_rules.specs.Mount.{IsMount, MountModel}
 use Rattle.mount_rules.specs.OneThread.{Call, Ending, Ends, IsLawful, IsRun, RunState, first_state, mount_by, performed, reply_by, reply_in, second_of, short, stale, state_after_call, state_after_calls}

@@ -133,7 +133,7 @@ module _ (again : Node → Option Node) (shows : (node shown : Node) → again n
         by (Some shown) e =
             let was = WasCurrent-shown shown e in
             let c = is.current name shown.number was.current in
-            let one : c.node ≡ was.node = same_Some (sym c.there ∙ was.there) in
+            let one : c.inode ≡ was.node = same_Some (sym c.there ∙ was.there) in
             TableKeeps-written claimed table shown.number was.node shown.node was.there
             (was.again.seen shown.number (subst (λ (x : Node). is_live shown.number x ≡ true) one c.live))
             (subst (λ q. IsClaimed claimed (key.Name q)) (sym (ap (λ (x : Node). x.name) (sym one) ∙ c.named)) mine)

@@ -6,7 +6,7 @@ use Rattle.bucket_api.specs.Operation.{Operation}
 use Rattle.fuse_replies.specs.declared.reply.Reply.TheVariants.{Error}
 use Rattle.inode_spec.specs.Inodes.{lookups_of}
 use Rattle.mount_model.specs.declared.config.Config.{Config}
-use Rattle.mount_rules.specs.Errno.{enomem}
+use Rattle.fuse_replies.specs.Errno.{enomem}
 use Rattle.mount_rules.specs.Laws.{GivesLater, IsCovered, Keeps, given}
 use Rattle.mount_rules.specs.Mount.{IsMount, MountModel}
 use Rattle.mount_model.specs.Observing.{Observed}

@@ -6,10 +6,11 @@ use Rattle.std.specs.Option.{option_map_or}
 use Rattle.claim_spec.specs.declared.claim.Claim.{Claim}
 use Rattle.fuse_replies.specs.declared.reply.Reply.{Reply}
 use Rattle.fuse_replies.specs.declared.reply.Reply.TheVariants.{Error, Silent}
+use Rattle.fuse_requests.specs.Opcodes as opcodes
 use Rattle.fuse_requests.specs.declared.request.Request.{Request}
 use Rattle.fuse_requests.specs.declared.request.Request.TheVariants.{Lookup, Forget, BatchForget, Interrupt, Init, Statfs, Opendir, Readdir, Releasedir, Fsyncdir, Create, Destroy, Unknown}
 use Rattle.mount_model.specs.declared.config.Config.{Config}
-use Rattle.mount_rules.specs.Errno.{einval, enosys, eproto}
+use Rattle.fuse_replies.specs.Errno.{einval, enosys, eproto}
 use Rattle.mount_rules.specs.Mount.{MountModel}
 use Rattle.mount_model.specs.Observing.{Observed}
 use Rattle.mount_rules.specs.Plans.{Plan, Source, Step, done}
@@ -27,14 +28,15 @@ use Rattle.mount_rules.specs.Requests.Unserved as unserved
 use Rattle.mount_rules.specs.Rules.{Rules, Taken}
 use Rattle.mount_rules.specs.View.{View, view_of}
 
--- the opcodes of fuse.h that never get a reply: FUSE_FORGET, FUSE_INTERRUPT and FUSE_BATCH_FORGET
+-- the requests that never get a reply
 abbrev pub silent_opcodes : List ℕ
-silent_opcodes = 2 ∷ 36 ∷ 42 ∷ []
+silent_opcodes = opcodes.forget ∷ opcodes.interrupt ∷ opcodes.batch_forget ∷ []
 
--- the opcodes of the requests that are served and get a reply: FUSE_LOOKUP, FUSE_STATFS, FUSE_INIT, FUSE_OPENDIR,
--- FUSE_READDIR, FUSE_RELEASEDIR, FUSE_FSYNCDIR, FUSE_CREATE and FUSE_DESTROY
+-- the requests that are served and get a reply
 abbrev pub served_opcodes : List ℕ
-served_opcodes = 1 ∷ 17 ∷ 26 ∷ 27 ∷ 28 ∷ 29 ∷ 30 ∷ 35 ∷ 38 ∷ []
+served_opcodes =
+    opcodes.lookup ∷ opcodes.statfs ∷ opcodes.init ∷ opcodes.opendir ∷ opcodes.readdir ∷ opcodes.releasedir
+    ∷ opcodes.fsyncdir ∷ opcodes.create ∷ opcodes.destroy ∷ []
 
 abbrev pub is_among : List ℕ → ℕ → Bool
 is_among opcodes opcode = list_any (λ o. o == opcode) opcodes
@@ -74,7 +76,7 @@ is_silent _ = false
 -- INIT, also where its body could not be read
 abbrev pub is_init : Request → Bool
 is_init (Init major minor readahead flags) = true
-is_init (Unknown opcode) = opcode == 26
+is_init (Unknown opcode) = opcode == opcodes.init
 is_init _ = false
 
 -- a request that waits for no reply has no effect before a version is agreed on

@@ -9,7 +9,7 @@ use Rattle.object_names.specs.declared.component.NameFault.TheVariants.{TooLong}
 use Rattle.object_names.specs.declared.shown.DirItem.{DirItem}
 use Rattle.object_names.specs.declared.shown.NodeKind.{NodeKind}
 use Rattle.object_names.specs.declared.shown.NodeKind.TheVariants.{Dir}
-use Rattle.mount_rules.specs.Errno.{ebadf, einval, enametoolong, enotdir, estale}
+use Rattle.fuse_replies.specs.Errno.{ebadf, einval, enametoolong, enotdir, estale}
 use Rattle.mount_rules.specs.View.{Sight, child_of}
 
 -- a node that is live; another is stale

@@ -15,7 +15,7 @@ use Rattle.inode_spec.specs.Inodes.{lookups_of}
 use Rattle.mount_model.specs.declared.config.Config.{Config}
 use Rattle.mount_model.specs.Configs.{IsConfig}
 use Rattle.mount_rules.specs.Dispatch.{claims, early, goes_on, is_idle, mount_after, plan, reply_to, view_in}
-use Rattle.mount_rules.specs.Errno.{enomem}
+use Rattle.fuse_replies.specs.Errno.{enomem}
 use Rattle.mount_rules.specs.Mount.{IsMount, MountModel}
 use Rattle.mount_rules.specs.OneThread.{Call, IsRun, Ending, RunState, first_state, performed, short, reply_by, reply_in, state_after_call, state_after_calls}
 use Rattle.mount_model.specs.Observing.{Observed}

@@ -2,7 +2,6 @@
 pub mod Attributes
 pub mod Claiming
 pub mod Dispatch
-pub mod Errno
 pub mod Guards
 pub mod Laws
 pub mod Making

@@ -6,7 +6,7 @@ use Rattle.bucket_api.specs.declared.answers.Answer.{Answer}
 use Rattle.bucket_api.specs.declared.answers.Answer.TheVariants as answers
 use Rattle.bucket_api.specs.declared.objects.Pair.{Pair}
 use Rattle.bucket_api.specs.Operation.{insert}
-use Rattle.mount_rules.specs.Errno.{eexist, eio}
+use Rattle.fuse_replies.specs.Errno.{eexist, eio}
 use Rattle.mount_rules.specs.Plans.{Step, done, ask}
 
 -- the object is empty, and has these pairs

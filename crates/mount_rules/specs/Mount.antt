@@ -4,7 +4,7 @@ use Rattle.std.specs.FinMap as fin
 use Rattle.std.specs.Ordering.{nat_cmp}
 use Rattle.bucket_api.specs.Metadata.{Metadata}
 use Rattle.handle_table.specs.Handles.{Opened}
-use Rattle.inode_spec.specs.Inodes.{Inode, Inodes, first_table, is_live}
+use Rattle.inode_spec.specs.Inodes.{Inode, Inodes, IsLiveUnder, first_table}
 use Rattle.mount_model.specs.declared.config.Config.{Config}
 use Rattle.object_names.specs.Paths.{IsPrefix, IsPath}
 use Rattle.object_names.specs.declared.shown.NodeKind.{NodeKind}
@@ -58,18 +58,11 @@ abbrev pub IsNameOf : NodeKind → List ℕ → Type 0
 IsNameOf Dir name = IsPrefix name
 IsNameOf kind name = IsPath name
 
--- the current node of a name is there, is live, and has that name
-pub record IsCurrent (table : NodeTable) (name : List ℕ) (number : ℕ) : Type 0 where
-  pub node : Node
-  pub there : fin.get table.nodes number ≡ Some node
-  pub named : node.name ≡ name
-  pub live : is_live number node ≡ true
-
 -- What holds of every mount: nodes and handles have numbers that were given before, nodes have names of their kinds, and
 -- a name's current node is live and has it.
 pub record IsMount (mount : MountModel) : Type 0 where
   pub first : 2 ≤ mount.table.next
   pub nodes : (number : ℕ) (node : Node) → fin.get mount.table.nodes number ≡ Some node → number < mount.table.next
   pub names : (number : ℕ) (node : Node) → fin.get mount.table.nodes number ≡ Some node → IsNameOf node.kind node.name
-  pub current : (name : List ℕ) (number : ℕ) → fin.get mount.table.current name ≡ Some number → IsCurrent mount.table name number
+  pub current : (name : List ℕ) (number : ℕ) → fin.get mount.table.current name ≡ Some number → IsLiveUnder mount.table name number
   pub handles : (fh : ℕ) (handle : Opened) → fin.get mount.handles fh ≡ Some handle → fh < mount.next_handle

@@ -14,7 +14,7 @@ use Rattle.fuse_requests.specs.declared.request.Request.{Request}
 use Rattle.fuse_requests.specs.Grammar.{request_of}
 use Rattle.mount_model.specs.declared.config.Config.{Config}
 use Rattle.mount_rules.specs.Dispatch.{mount_after, plan, reply_to, wants}
-use Rattle.mount_rules.specs.Errno.{enomem, estale}
+use Rattle.fuse_replies.specs.Errno.{enomem, estale}
 use Rattle.mount_rules.specs.Mount.{MountModel, first_mount, second_at}
 use Rattle.mount_model.specs.Observing.{Observed}
 use Rattle.mount_rules.specs.Plans.{Plan, Source, Step, done, asked_by, Completes, IsHarmless, Walks}

@@ -1,6 +1,6 @@
 -- Showing a name: which node the kernel is given for it, and which nodes are then there. Node identity is this project's
 -- own rule: a node keeps its number while the bucket shows the generation that it stands for, or an older moment.
-use Rattle.std.specs.Prelude.{ℕ, max, Bool, false, ◌==◌, ◌||◌, nat_lt, List, Option, Some, None, option_and_then, if◌then◌else◌}
+use Rattle.std.specs.Prelude.{ℕ, max, Bool, false, ◌==◌, ◌||◌, nat_lt, List, Option, Some, None, option_and_then, option_map, if◌then◌else◌}
 use Rattle.std.specs.FinMap as fin
 use Rattle.std.specs.Option.{option_map_or}
 use Rattle.bucket_api.specs.Metadata.{Metadata}
@@ -21,12 +21,13 @@ new_node name meta moment = record { kind = node_kind meta; name = name; lookups
 abbrev pub new_directory : List ℕ → Node
 new_directory name = record { kind = Dir; name = name; lookups = 1; file = None }
 
+-- what tells the greater metageneration
+abbrev pub newer : Metadata → Metadata → Metadata
+newer kept meta = if nat_lt kept.metageneration meta.metageneration then meta else kept
+
 -- what is kept of a generation that is shown again: what tells the greater metageneration, and the later moment
 abbrev pub shown_again : Kept → Metadata → ℕ → Kept
-shown_again kept meta moment = record {
-  meta = if nat_lt kept.meta.metageneration meta.metageneration then meta else kept.meta;
-  known = max kept.known moment;
-}
+shown_again kept meta moment = record { meta = newer kept.meta meta; known = max kept.known moment }
 
 -- the file after its own generation was shown at a moment; another generation leaves it as it was
 abbrev pub refreshed : Metadata → ℕ → File → File
@@ -46,6 +47,10 @@ abbrev pub current_shown : (Node → Option Node) → NodeTable → List ℕ →
 current_shown again table name =
     option_and_then (λ number. option_and_then (λ node. option_and_then (λ shown. Some (record { number = number; node = shown })) (again node)) (fin.get table.nodes number))
     (fin.get table.current name)
+
+-- its number
+abbrev pub number_shown : (Node → Option Node) → NodeTable → List ℕ → Option ℕ
+number_shown again table name = option_map (λ (shown : Numbered). shown.number) (current_shown again table name)
 
 -- a node that is shown again, or a new one, with its number; and the table with it
 abbrev pub shown_or_new : NodeTable → Option Numbered → Node → Numbered

@@ -13,7 +13,7 @@ use Rattle.inode_spec.specs.Inodes.{granted, lookups_of}
 use Rattle.mount_model.specs.declared.config.Config.{Config}
 use Rattle.object_names.specs.Paths.{IsPath}
 use Rattle.mount_rules.specs.Claiming.{owns_name, shares_node}
-use Rattle.mount_rules.specs.Errno.{eexist, eio, enomem}
+use Rattle.fuse_replies.specs.Errno.{eexist, eio, enomem}
 use Rattle.mount_rules.specs.Guards.{part_refusal}
 use Rattle.mount_rules.specs.Laws.{GivesLater, IsCovered, Keeps, given}
 use Rattle.mount_rules.specs.Mount.{IsMount, MountModel, Node}

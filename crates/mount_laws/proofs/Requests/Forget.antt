@@ -11,7 +11,7 @@ use Rattle.claim_spec.specs.declared.claim.ClaimKey.TheVariants as key
 use Rattle.fuse_replies.specs.declared.reply.Reply.TheVariants.{Error, Silent}
 use Rattle.inode_spec.specs.Inodes.{forgotten, forgotten_at, is_live}
 use Rattle.mount_rules.specs.Claiming.{owns_node}
-use Rattle.mount_rules.specs.Errno.{enomem}
+use Rattle.fuse_replies.specs.Errno.{enomem}
 use Rattle.mount_rules.specs.Laws.{GivesLater, Keeps}
 use Rattle.mount_rules.specs.Mount.{IsMount, MountModel, Node}
 use Rattle.mount_rules.specs.Requests.Forget as forget

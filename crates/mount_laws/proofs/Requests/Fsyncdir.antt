@@ -1,7 +1,7 @@
 -- FSYNCDIR.
 use Rattle.std.proofs.Common.{◌≡◌, ℕ, Some, None, refl}
 use Rattle.fuse_replies.specs.declared.reply.Reply.TheVariants.{Error, Empty}
-use Rattle.mount_rules.specs.Errno.{enomem}
+use Rattle.fuse_replies.specs.Errno.{enomem}
 use Rattle.mount_rules.specs.Requests.Fsyncdir as fsyncdir
 use Rattle.mount_laws.proofs.Guarding.{on_open_directory-memory}
 use Rattle.mount_laws.proofs.Quiet.{IsQuiet, IsSound-quiet}

@@ -5,7 +5,7 @@ use Rattle.std.specs.Prelude.{if◌then◌else◌, bit_and}
 use Rattle.fuse_replies.specs.declared.reply.Reply.{Reply}
 use Rattle.fuse_replies.specs.declared.reply.Reply.TheVariants.{Error, InitDone}
 use Rattle.inode_spec.specs.Inodes.{lookups_of}
-use Rattle.mount_rules.specs.Errno.{enomem, eproto}
+use Rattle.fuse_replies.specs.Errno.{enomem, eproto}
 use Rattle.mount_rules.specs.Laws.{GivesLater, Keeps, given}
 use Rattle.mount_rules.specs.Mount.{IsMount, MountModel}
 use Rattle.mount_rules.specs.Requests.Init as init

@@ -12,7 +12,7 @@ use Rattle.inode_spec.specs.Inodes.{lookups_of}
 use Rattle.mount_model.specs.declared.config.Config.{Config}
 use Rattle.object_names.specs.Paths.{IsPath, bare_name, dir_prefix_of, has_suffix}
 use Rattle.object_names.specs.declared.component.NameFault.{NameFault}
-use Rattle.mount_rules.specs.Errno.{eio, enoent, enomem}
+use Rattle.fuse_replies.specs.Errno.{eio, enoent, enomem}
 use Rattle.mount_rules.specs.Guards.{part_refusal}
 use Rattle.mount_rules.specs.Laws.{IsCovered, given}
 use Rattle.mount_rules.specs.Mount.{MountModel, NodeTable}

@@ -10,7 +10,7 @@ use Rattle.fuse_replies.specs.declared.reply.Reply.TheVariants.{Error}
 use Rattle.inode_spec.specs.Inodes.{lookups_of}
 use Rattle.object_names.specs.declared.shown.DirItem.{DirItem}
 use Rattle.mount_rules.specs.Claiming.{shares_node}
-use Rattle.mount_rules.specs.Errno.{eio, enomem}
+use Rattle.fuse_replies.specs.Errno.{eio, enomem}
 use Rattle.mount_rules.specs.Guards.{in_directory}
 use Rattle.mount_rules.specs.Laws.{GivesLater, IsCovered, Keeps, given}
 use Rattle.mount_rules.specs.Mount.{IsMount, MountModel}

@@ -3,7 +3,7 @@ use Rattle.std.proofs.Common.{◌≡◌, ℕ, Bool, true, false, List, Some, Non
 use Rattle.std.specs.Prelude.{if◌then◌else◌}
 use Rattle.fuse_replies.specs.declared.reply.Reply.TheVariants.{Error, Dirents}
 use Rattle.object_names.specs.declared.shown.DirItem.{DirItem}
-use Rattle.mount_rules.specs.Errno.{einval, enomem}
+use Rattle.fuse_replies.specs.Errno.{einval, enomem}
 use Rattle.mount_rules.specs.Requests.Readdir as readdir
 use Rattle.mount_laws.proofs.Guarding.{errors_differ, on_open_directory-memory}
 use Rattle.mount_laws.proofs.Quiet.{IsQuiet, IsSound-quiet}

@@ -4,7 +4,7 @@ use Rattle.claim_spec.specs.Conflicts.{IsOwned}
 use Rattle.claim_spec.specs.declared.claim.ClaimKey.TheVariants as key
 use Rattle.fuse_replies.specs.declared.reply.Reply.TheVariants.{Error, Empty}
 use Rattle.mount_rules.specs.Claiming.{owns_node}
-use Rattle.mount_rules.specs.Errno.{enomem}
+use Rattle.fuse_replies.specs.Errno.{enomem}
 use Rattle.mount_rules.specs.Requests.Releasedir as releasedir
 use Rattle.mount_laws.proofs.Guarding.{on_open_directory-memory, on_open_directory-none}
 use Rattle.mount_laws.proofs.Keeping.{Keeps-released}

@@ -1,7 +1,7 @@
 -- STATFS and DESTROY.
 use Rattle.std.proofs.Common.{◌≡◌, ℕ, refl, Some, None}
 use Rattle.fuse_replies.specs.declared.reply.Reply.TheVariants.{Error, Stat, Empty}
-use Rattle.mount_rules.specs.Errno.{enomem}
+use Rattle.fuse_replies.specs.Errno.{enomem}
 use Rattle.mount_rules.specs.Requests.Destroy as destroy
 use Rattle.mount_rules.specs.Requests.Statfs as statfs
 use Rattle.mount_laws.proofs.Quiet.{IsQuiet, IsSound-quiet}

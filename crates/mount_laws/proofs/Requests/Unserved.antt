@@ -1,7 +1,7 @@
 -- Requests that are not served, and those that could not be read.
 use Rattle.std.proofs.Common.{◌≡◌, ◌≢◌, ℕ, refl, Option, Some, None}
 use Rattle.fuse_replies.specs.declared.reply.Reply.TheVariants.{Error, Silent}
-use Rattle.mount_rules.specs.Errno.{enomem}
+use Rattle.fuse_replies.specs.Errno.{enomem}
 use Rattle.mount_rules.specs.Requests.Unserved as unserved
 use Rattle.mount_laws.proofs.Quiet.{IsQuiet, IsSound-quiet}
 use Rattle.mount_laws.proofs.Sound.{IsSound}

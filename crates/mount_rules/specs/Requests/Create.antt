@@ -9,7 +9,7 @@ use Rattle.inode_spec.specs.Inodes.{granted}
 use Rattle.mount_model.specs.declared.config.Config.{Config}
 use Rattle.mount_rules.specs.Attributes.{entry_of}
 use Rattle.mount_rules.specs.Claiming.{shares_node, owns_name}
-use Rattle.mount_rules.specs.Errno.{eexist, eio}
+use Rattle.fuse_replies.specs.Errno.{eexist, eio}
 use Rattle.mount_rules.specs.Guards.{in_directory, part_refusal, path_in}
 use Rattle.mount_rules.specs.Making as making
 use Rattle.mount_rules.specs.Making.{Made, new, exists, fault}

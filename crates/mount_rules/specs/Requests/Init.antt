@@ -4,7 +4,7 @@
 use Rattle.std.specs.Prelude.{ℕ, Bool, true, false, [], ◌==◌, ◌&&◌, nat_lt, nat_le, bit_and, None, if◌then◌else◌}
 use Rattle.fuse_replies.specs.declared.reply.Reply.{Reply}
 use Rattle.fuse_replies.specs.declared.reply.Reply.TheVariants.{Error, InitDone}
-use Rattle.mount_rules.specs.Errno.{eproto}
+use Rattle.fuse_replies.specs.Errno.{eproto}
 use Rattle.mount_rules.specs.Mount.{MountModel}
 use Rattle.mount_rules.specs.Plans.{done}
 use Rattle.mount_rules.specs.Rules.{Rules, nowhere}

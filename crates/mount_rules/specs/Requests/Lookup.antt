@@ -13,7 +13,7 @@ use Rattle.mount_model.specs.declared.config.Config.{Config}
 use Rattle.object_names.specs.Paths.{bare_name, dir_prefix_of, has_suffix}
 use Rattle.mount_rules.specs.Attributes.{entry_of}
 use Rattle.mount_rules.specs.Claiming.{shares_node, shares_name}
-use Rattle.mount_rules.specs.Errno.{eio, enoent}
+use Rattle.fuse_replies.specs.Errno.{eio, enoent}
 use Rattle.mount_rules.specs.Guards.{in_directory, part_refusal, path_in}
 use Rattle.mount_rules.specs.Mount.{MountModel, NodeTable}
 use Rattle.mount_rules.specs.Plans.{Step, answers_of, ask, done, last_moment}

@@ -15,7 +15,7 @@ use Rattle.fuse_replies.specs.declared.reply.Reply.TheVariants.{Error, Opened}
 use Rattle.object_names.specs.ShownNames.{shown_entries}
 use Rattle.object_names.specs.declared.shown.DirItem.{DirItem}
 use Rattle.mount_rules.specs.Claiming.{shares_node}
-use Rattle.mount_rules.specs.Errno.{eio}
+use Rattle.fuse_replies.specs.Errno.{eio}
 use Rattle.mount_rules.specs.Guards.{in_directory, path_in}
 use Rattle.mount_rules.specs.Mount.{MountModel}
 use Rattle.mount_rules.specs.Plans.{Step, answers_of, done, ask}

@@ -11,7 +11,7 @@ use Rattle.object_names.specs.declared.shown.NodeKind.{NodeKind}
 use Rattle.object_names.specs.declared.shown.NodeKind.TheVariants.{Dir, File, Symlink}
 use Rattle.handle_table.specs.Handles.{Opened as OpenHandle}
 use Rattle.mount_rules.specs.Claiming.{shares_node}
-use Rattle.mount_rules.specs.Errno.{einval}
+use Rattle.fuse_replies.specs.Errno.{einval}
 use Rattle.mount_rules.specs.Guards.{entries_opened, on_open_directory}
 use Rattle.mount_rules.specs.Plans.{done}
 use Rattle.mount_rules.specs.Rules.{Rules, at_handle}

@@ -1,0 +1,19 @@
+//! A mount in tables: what it holds of nodes and handles, why it refuses a request, and what a request that is done is
+//! answered and leaves.
+#![tactic(auto)]
+
+mod attributes;
+mod create;
+mod entries;
+mod file;
+mod finish;
+mod init;
+mod mount;
+mod path;
+mod refusals;
+mod showing;
+mod spare;
+
+pub use file::{File, Kept};
+pub use mount::Mount;
+pub use spare::Spare;
