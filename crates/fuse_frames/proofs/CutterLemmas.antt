@@ -6,8 +6,8 @@ use Rattle.std.specs.Prelude.{All}
 use Rattle.std.proofs.lemmas.List.{append-nil, append_assoc, drop_at, length-append, length-take, length-take-le, take-append-le, take_at}
 use Rattle.std.proofs.lemmas.List.Elements.{All-append, All-drop, All-nil, All-same, All-take}
 use Rattle.fuse_head.specs.Head.{IsWholeFrame}
-use Rattle.fuse_frames.specs.Cut.{Cuts, IsBad, IsBelow40, IsOver, IsSound, Keeps}
-use Rattle.fuse_frames.specs.Cutter.{Cutter, Fed, Feeds, fed, fresh, gave_after, Gives, GivesFrame, HasRead, HasStopped, pending, place, StopsAt, stream_after}
+use Rattle.fuse_frames.specs.Cut.{Cuts, IsBad, IsBelow40, IsOver, HasNoBadLen, IsKeptOf}
+use Rattle.fuse_frames.specs.Cutter.{Cutter, Fed, Feeds, fed, fresh, gave_after, GivesNext, GivesFrame, HasRead, HasStopped, pending, place, StopsAt, stream_after}
 use Rattle.fuse_frames.proofs.CutLemmas.{concat-append, cuts_unique}
 use Rattle.fuse_frames.proofs.FrontLemmas.{bad_append, bad_told, below_take, concat-push, len-take, over_take, sound_not_bad, take_bad, unfinished_bad, unfinished_untold}
 use Rattle.fuse_frames.specs.declared.fault.CutFault.{CutFault}
@@ -188,7 +188,7 @@ has_read_frame {stream} {gave} {old} {new} {frame} read gives =
     let P : List (List ℕ) → Type 0 = λ fs. Cuts stream fs read.rest in
     let size : length (concat (gave ++ frame ∷ [])) ≡ length (concat gave) + length frame =
     ap length (concat-push gave frame) ∙ length-append (concat gave) frame in
-    let Q : List ℕ → Type 0 = λ b. Keeps read.rest b in
+    let Q : List ℕ → Type 0 = λ b. IsKeptOf read.rest b in
     record {
       rest = read.rest;
       cut = subst P frames read.cut;
@@ -196,7 +196,7 @@ has_read_frame {stream} {gave} {old} {new} {frame} read gives =
       kept = subst Q (sym gives.rest) read.kept;
     }
 
-pub has_read_gives : {stream : List ℕ} {gave : List (List ℕ)} {old new : Cutter} (result : Option (List ℕ)) → HasRead stream gave old → Gives old result new
+pub has_read_gives : {stream : List ℕ} {gave : List (List ℕ)} {old new : Cutter} (result : Option (List ℕ)) → HasRead stream gave old → GivesNext old result new
     → HasRead stream (gave_after gave result) new
 has_read_gives {stream} {gave} None read none = let P : Cutter → Type 0 = λ c. HasRead stream gave c in subst P (sym none.1) read
 has_read_gives (Some frame) read gives = has_read_frame read gives
@@ -215,7 +215,7 @@ has_read_whole {stream} {gave} {cutter} read none =
     ]
 
 -- where no bad len was met, the cutter's own rest is that of the stream
-pub has_read_cut : {stream : List ℕ} {gave : List (List ℕ)} {cutter : Cutter} → HasRead stream gave cutter → IsSound cutter.rest
+pub has_read_cut : {stream : List ℕ} {gave : List (List ℕ)} {cutter : Cutter} → HasRead stream gave cutter → HasNoBadLen cutter.rest
     → Cuts stream (gave ++ cutter.held) cutter.rest
 has_read_cut {stream} {gave} {cutter} read sound =
     elim read.kept [

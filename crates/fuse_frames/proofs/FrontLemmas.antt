@@ -6,8 +6,8 @@ use Rattle.std.proofs.lemmas.Bool.{cases_lt}
 use Rattle.fuse_head.specs.Head.{IsWholeFrame}
 use Rattle.fuse_head.specs.Little.{u32_at}
 use Rattle.fuse_head.proofs.LittleLemmas.{u32_at-append}
-use Rattle.fuse_frames.specs.Cut.{IsBad, IsBelow40, IsOver, IsSound, IsUnfinished}
-use Rattle.fuse_frames.specs.Front.{Begins, Fills, GrowsTo, TellsLen}
+use Rattle.fuse_frames.specs.Cut.{IsBad, IsBelow40, IsOver, HasNoBadLen, IsUnfinished}
+use Rattle.fuse_frames.specs.Front.{BeginsWithFrame, Fills, GrowsTo, TellsLen}
 
 -- the len at the front of bytes is that of any front that holds its four bytes
 pub len-take : (n : ℕ) (bytes : List ℕ) → 4 ≤ length (take n bytes) → u32_at (take n bytes) 0 ≡ u32_at bytes 0
@@ -64,7 +64,7 @@ unfinished_none bytes (inl short) = unfinished_untold bytes short
 unfinished_none bytes (inr bad) = unfinished_bad bytes bad
 
 -- the frame at the front goes to the frames that were cut
-pub joined_push : {left frame behind : List ℕ} (bytes : List ℕ) (frames : List (List ℕ)) → bytes ≡ concat frames ++ left → Begins left frame behind
+pub joined_push : {left frame behind : List ℕ} (bytes : List ℕ) (frames : List (List ℕ)) → bytes ≡ concat frames ++ left → BeginsWithFrame left frame behind
     → bytes ≡ concat (frames ++ frame ∷ []) ++ behind
 joined_push {left} {frame} {behind} bytes frames joined begins =
     rw (joined, begins.joined, concat-push frames frame, append_assoc) refl
@@ -83,7 +83,7 @@ grown_whole new len tells fits enough =
 
 -- a rest of at most as many bytes as its good len tells is whole, or it isn't and nothing was left over
 grown_front : (new left : List ℕ) (len : ℕ) → TellsLen new len → length new ≤ len → (len ≤ length new) ⊎ (left ≡ [])
-    → IsWholeFrame new ⊎ ((IsSound new × IsUnfinished new × (left ≡ [])) ⊎ (IsBad new × (length new ≡ 4)))
+    → IsWholeFrame new ⊎ ((HasNoBadLen new × IsUnfinished new × (left ≡ [])) ⊎ (IsBad new × (length new ≡ 4)))
 grown_front new left len tells fits (inl enough) = inl (grown_whole new len tells fits enough)
 grown_front new left len tells fits (inr none) =
     elim (cases_lt (length new) len) [
@@ -132,7 +132,7 @@ bad_append rest more (inl bad) = inl (below_append rest more bad)
 bad_append rest more (inr bad) = inr (over_append rest more bad)
 
 -- a len isn't good and bad at once
-pub sound_not_bad : (rest : List ℕ) → IsSound rest → IsBad rest → ⊥
+pub sound_not_bad : (rest : List ℕ) → HasNoBadLen rest → IsBad rest → ⊥
 sound_not_bad rest sound (inl bad) = omega (arith, sound.least bad.told, bad.below)
 sound_not_bad rest sound (inr bad) = omega (arith, sound.most bad.told, bad.over)
 

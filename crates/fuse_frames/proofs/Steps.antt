@@ -5,10 +5,10 @@ use Rattle.std.specs.Prelude.{All}
 use Rattle.std.proofs.lemmas.List.{append-nil, append_assoc, length-append, length-take, take_at}
 use Rattle.std.proofs.lemmas.List.Elements.{All-append, All-head, All-push, All-rest, All-same}
 use Rattle.fuse_head.specs.Head.{IsWholeFrame}
-use Rattle.fuse_frames.specs.Cut.{Cuts, IsBad, IsSound, IsUnfinished, Keeps}
+use Rattle.fuse_frames.specs.Cut.{Cuts, IsBad, HasNoBadLen, IsUnfinished, IsKeptOf}
 use Rattle.fuse_frames.specs.Cutter.{Cutter, Fed, HasStopped, pending}
 use Rattle.fuse_frames.specs.Front.{GrowsTo}
-use Rattle.fuse_frames.specs.Kept.{Ends, IsKept, Says, TakesIn, Waits}
+use Rattle.fuse_frames.specs.Kept.{Ends, IsCutter, Says, TakesIn, Waits}
 use Rattle.fuse_frames.proofs.CutLemmas.{concat-append}
 use Rattle.fuse_frames.proofs.FrontLemmas.{bad_append, bad_told, below_append, below_take, concat-push, over_append, over_take, sound_not_bad, take_bad, unfinished_bad}
 use Rattle.fuse_frames.specs.declared.fault.CutFault.{CutFault}
@@ -32,11 +32,11 @@ waits old bytes new left grows not_whole =
     ]
 
 -- what is kept of a rest begins with no frame, and of a bad len it has four bytes
-pub keeps_unfinished : (rest kept : List ℕ) → Keeps rest kept → IsUnfinished rest → IsUnfinished kept
+pub keeps_unfinished : (rest kept : List ℕ) → IsKeptOf rest kept → IsUnfinished rest → IsUnfinished kept
 keeps_unfinished rest kept (inl sound) unfinished = rw sound.1 unfinished
 keeps_unfinished rest kept (inr bad) unfinished = rw bad.1 (unfinished_bad (take 4 rest) (take_bad rest bad.0))
 
-pub keeps_four : (rest kept : List ℕ) → Keeps rest kept → IsBad kept → length kept ≡ 4
+pub keeps_four : (rest kept : List ℕ) → IsKeptOf rest kept → IsBad kept → length kept ≡ 4
 keeps_four rest kept (inl sound) bad = absurd (sound_not_bad rest sound.0 (rw sound.1 at bad))
 keeps_four rest kept (inr kept_bad) bad = ap length kept_bad.1 ∙ length-take 4 rest ∙ omega (arith, bad_told rest kept_bad.0)
 
@@ -59,11 +59,11 @@ says_fed old bytes (Err (LenOver at)) new takes says =
 says_fed old bytes (Err (Truncated at)) new takes says = absurd says
 
 -- a cutter that has come upon a bad len stays as it is and answers the same again
-stays_cut : (cutter : Cutter) (bytes : List ℕ) → IsKept cutter → IsBad (cutter.rest ++ bytes) → Cuts (pending cutter ++ bytes) cutter.held (cutter.rest ++ bytes)
+stays_cut : (cutter : Cutter) (bytes : List ℕ) → IsCutter cutter → IsBad (cutter.rest ++ bytes) → Cuts (pending cutter ++ bytes) cutter.held (cutter.rest ++ bytes)
 stays_cut cutter bytes kept bad =
     record { joined = append_assoc (concat cutter.held) cutter.rest bytes; whole = kept.whole; unfinished = unfinished_bad (cutter.rest ++ bytes) bad }
 
-pub says_stays : (U : Type 0) (cutter : Cutter) (bytes : List ℕ) (fault : CutFault) → IsKept cutter → Says {U = U} cutter (Err fault) → Fed {U = U} cutter bytes (Err fault) cutter
+pub says_stays : (U : Type 0) (cutter : Cutter) (bytes : List ℕ) (fault : CutFault) → IsCutter cutter → Says {U = U} cutter (Err fault) → Fed {U = U} cutter bytes (Err fault) cutter
 says_stays U cutter bytes NoMemory kept says = absurd says
 says_stays U cutter bytes (LenBelow40 at) kept says =
     let bad = below_append cutter.rest bytes says.0 in
@@ -92,9 +92,9 @@ pub first_whole : (held left : List (List ℕ)) (frame : List ℕ) → All IsWho
 first_whole held left frame whole first = All-head IsWholeFrame frame left (All-same IsWholeFrame (frame ∷ left) held (sym first) whole)
 
 -- the frame that has waited longest is given
-pub gives_kept : (given place_now : ℕ) (held left : List (List ℕ)) (rest frame : List ℕ) → IsKept (record { given = given; held = held; rest = rest })
+pub gives_kept : (given place_now : ℕ) (held left : List (List ℕ)) (rest frame : List ℕ) → IsCutter (record { given = given; held = held; rest = rest })
     → place_now ≡ given + length (concat held) → held ≡ frame ∷ left
-    → IsKept (record { given = given + length frame; held = left; rest = rest }) × (place_now ≡ given + length frame + length (concat left))
+    → IsCutter (record { given = given + length frame; held = left; rest = rest }) × (place_now ≡ given + length frame + length (concat left))
 gives_kept given place_now held left rest frame kept counted first =
     let size : length (concat held) ≡ length frame + length (concat left) = ap (λ (h : List (List ℕ)). length (concat h)) first ∙ length-append frame (concat left) in
     (record { whole = All-rest IsWholeFrame frame left held first kept.whole; unfinished = kept.unfinished; four = kept.four }, omega (arith, counted, size))
@@ -105,7 +105,7 @@ concat_all held frame frames =
     concat-append (held ++ frame ∷ []) frames ∙ ap (λ (b : List ℕ). b ++ concat frames) (concat-push held frame) ∙ append_assoc (concat held) frame (concat frames)
 
 -- the frame that a rest began has become whole, and what stands behind it was cut
-pub ends_takes : (old new : Cutter) (bytes frame : List ℕ) (frames : List (List ℕ)) (kept : List ℕ) (size : ℕ) → Ends old.rest bytes frame frames kept size → IsKept old
+pub ends_takes : (old new : Cutter) (bytes frame : List ℕ) (frames : List (List ℕ)) (kept : List ℕ) (size : ℕ) → Ends old.rest bytes frame frames kept size → IsCutter old
     → new.given ≡ old.given → new.held ≡ old.held ++ frame ∷ [] ++ frames → new.rest ≡ kept → TakesIn old bytes new
 ends_takes old new bytes frame frames kept size ends is_kept given held rest =
     let behind = ends.behind in
@@ -128,7 +128,7 @@ ends_takes old new bytes frame frames kept size ends is_kept given held rest =
     }
 
 -- what was taken in leaves a cutter's fields as they must be
-pub takes_kept : (old : Cutter) (bytes : List ℕ) (new : Cutter) → TakesIn old bytes new → IsKept new
+pub takes_kept : (old : Cutter) (bytes : List ℕ) (new : Cutter) → TakesIn old bytes new → IsCutter new
 takes_kept old bytes new takes =
     record {
       whole = takes.cut.whole;
@@ -158,7 +158,7 @@ ends_fits rest bytes frame frames kept size ends =
     omega (arith, whole, left, behind.sized)
 
 -- a cutter whose len isn't bad has come upon none
-pub sound_not_stopped : (cutter : Cutter) (fault : CutFault) → IsSound cutter.rest → HasStopped fault cutter → ⊥
+pub sound_not_stopped : (cutter : Cutter) (fault : CutFault) → HasNoBadLen cutter.rest → HasStopped fault cutter → ⊥
 sound_not_stopped cutter NoMemory sound stopped = stopped
 sound_not_stopped cutter (LenBelow40 at) sound stopped = sound_not_bad cutter.rest sound (inl stopped.0)
 sound_not_stopped cutter (LenOver at) sound stopped = sound_not_bad cutter.rest sound (inr stopped.0)

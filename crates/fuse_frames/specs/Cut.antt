@@ -26,7 +26,7 @@ pub record IsOver (rest : List ℕ) : Type 0 where
   pub over : longest_frame < u32_at rest 0
 
 -- the four bytes of a len aren't all there, or it is one that a frame may have
-pub record IsSound (rest : List ℕ) : Type 0 where
+pub record HasNoBadLen (rest : List ℕ) : Type 0 where
   pub least : 4 ≤ length rest → 40 ≤ u32_at rest 0
   pub most : 4 ≤ length rest → u32_at rest 0 ≤ longest_frame
 
@@ -35,5 +35,5 @@ abbrev pub IsBad : List ℕ → Type 0
 IsBad rest = IsBelow40 rest ⊎ IsOver rest
 
 -- what is kept of a rest: all of it, or the four bytes of a bad len
-abbrev pub Keeps : List ℕ → List ℕ → Type 0
-Keeps rest kept = (IsSound rest × (kept ≡ rest)) ⊎ (IsBad rest × (kept ≡ take 4 rest))
+abbrev pub IsKeptOf : List ℕ → List ℕ → Type 0
+IsKeptOf rest kept = (HasNoBadLen rest × (kept ≡ rest)) ⊎ (IsBad rest × (kept ≡ take 4 rest))

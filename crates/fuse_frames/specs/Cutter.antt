@@ -2,7 +2,7 @@
 use Rattle.std.specs.Prelude.{◌≡◌, ◌≢◌, ◌+◌, ◌++◌, ℕ, List, [], ◌∷◌, Option, None, Some, Result, Ok, Err, length, take}
 use Rattle.std.specs.List.{concat}
 use Rattle.fuse_head.specs.Head.{IsWholeFrame}
-use Rattle.fuse_frames.specs.Cut.{Cuts, IsBelow40, IsOver, IsSound, Keeps}
+use Rattle.fuse_frames.specs.Cut.{Cuts, IsBelow40, IsOver, HasNoBadLen, IsKeptOf}
 use Rattle.fuse_frames.specs.declared.fault.CutFault.{CutFault}
 use Rattle.fuse_frames.specs.declared.fault.CutFault.TheVariants.{LenBelow40, LenOver, NoMemory, Truncated}
 
@@ -33,7 +33,7 @@ fed cutter = place cutter + length cutter.rest
 pub record Feeds (old : Cutter) (bytes : List ℕ) (new : Cutter) : Type 0 where
   pub given : new.given ≡ old.given
   pub cut : Cuts (pending old ++ bytes) new.held new.rest
-  pub sound : IsSound new.rest
+  pub sound : HasNoBadLen new.rest
 
 -- the cutter comes upon a bad len, or has come upon one before: `rest` is all that stands behind the last
 -- whole frame, and what is told is the place of its first byte
@@ -48,7 +48,7 @@ pub record StopsAt (Bad : List ℕ → Type 0) (old : Cutter) (bytes : List ℕ)
 -- what `feed` answers and leaves; memory is asked for only while no bad len was met
 abbrev pub Fed : {U : Type 0} → Cutter → List ℕ → Result U CutFault → Cutter → Type 0
 Fed old bytes (Ok _) new = Feeds old bytes new
-Fed old bytes (Err NoMemory) new = (new ≡ old) × IsSound old.rest
+Fed old bytes (Err NoMemory) new = (new ≡ old) × HasNoBadLen old.rest
 Fed old bytes (Err (LenBelow40 at)) new = StopsAt IsBelow40 old bytes at new
 Fed old bytes (Err (LenOver at)) new = StopsAt IsOver old bytes at new
 Fed old bytes (Err (Truncated at)) new = ⊥
@@ -61,9 +61,9 @@ pub record GivesFrame (old : Cutter) (frame : List ℕ) (new : Cutter) : Type 0 
   pub whole : IsWholeFrame frame
 
 -- what `next` answers and leaves
-abbrev pub Gives : Cutter → Option (List ℕ) → Cutter → Type 0
-Gives old None new = (old.held ≡ []) × (new ≡ old)
-Gives old (Some frame) new = GivesFrame old frame new
+abbrev pub GivesNext : Cutter → Option (List ℕ) → Cutter → Type 0
+GivesNext old None new = (old.held ≡ []) × (new ≡ old)
+GivesNext old (Some frame) new = GivesFrame old frame new
 
 -- the cutter has come upon this bad len, at this place
 abbrev pub HasStopped : CutFault → Cutter → Type 0
@@ -78,7 +78,7 @@ Finishes cutter (Ok _) = cutter.rest ≡ []
 Finishes cutter (Err NoMemory) = ⊥
 Finishes cutter (Err (LenBelow40 at)) = IsBelow40 cutter.rest × (at ≡ place cutter)
 Finishes cutter (Err (LenOver at)) = IsOver cutter.rest × (at ≡ place cutter)
-Finishes cutter (Err (Truncated at)) = IsSound cutter.rest × (cutter.rest ≢ []) × (at ≡ place cutter)
+Finishes cutter (Err (Truncated at)) = HasNoBadLen cutter.rest × (cutter.rest ≢ []) × (at ≡ place cutter)
 
 -- the cutter has been fed this stream and has given these frames: they and those that it holds are the frames of the
 -- stream, however it was fed
@@ -86,7 +86,7 @@ pub record HasRead (stream : List ℕ) (gave : List (List ℕ)) (cutter : Cutter
   pub rest : List ℕ
   pub cut : Cuts stream (gave ++ cutter.held) rest
   pub given : cutter.given ≡ length (concat gave)
-  pub kept : Keeps rest cutter.rest
+  pub kept : IsKeptOf rest cutter.rest
 
 -- the stream with the bytes that a call of `feed` has taken in
 abbrev pub stream_after : {U : Type 0} → List ℕ → List ℕ → Result U CutFault → List ℕ

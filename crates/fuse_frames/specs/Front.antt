@@ -2,13 +2,13 @@
 use Rattle.std.specs.Prelude.{◌≡◌, ◌<◌, ◌≤◌, ◌++◌, ◌⊎◌, ℕ, List, [], Option, None, Some, length, max, take}
 use Rattle.fuse_head.specs.Head.{longest_frame, IsWholeFrame}
 use Rattle.fuse_head.specs.Little.{u32_at}
-use Rattle.fuse_frames.specs.Cut.{IsBad, IsBelow40, IsOver, IsSound, IsUnfinished}
+use Rattle.fuse_frames.specs.Cut.{IsBad, IsBelow40, IsOver, HasNoBadLen, IsUnfinished}
 use Rattle.fuse_frames.specs.declared.fault.CutFault.{CutFault}
 use Rattle.fuse_frames.specs.declared.fault.CutFault.TheVariants.{LenBelow40, LenOver, NoMemory, Truncated}
 
 -- which bad len the bytes begin with, named with their place
 abbrev pub SaysBadLen : List ℕ → ℕ → Option CutFault → Type 0
-SaysBadLen rest place None = IsSound rest
+SaysBadLen rest place None = HasNoBadLen rest
 SaysBadLen rest place (Some NoMemory) = ⊥
 SaysBadLen rest place (Some (LenBelow40 at)) = IsBelow40 rest × (at ≡ place)
 SaysBadLen rest place (Some (LenOver at)) = IsOver rest × (at ≡ place)
@@ -27,7 +27,7 @@ SaysLen rest None = (length rest < 4) ⊎ IsBad rest
 SaysLen rest (Some len) = TellsLen rest len
 
 -- the bytes are a whole frame and what stands behind it
-pub record Begins (bytes frame behind : List ℕ) : Type 0 where
+pub record BeginsWithFrame (bytes frame behind : List ℕ) : Type 0 where
   pub joined : bytes ≡ frame ++ behind
   pub whole : IsWholeFrame frame
 
@@ -42,4 +42,4 @@ pub record Fills (old : List ℕ) (size : ℕ) (bytes new left : List ℕ) : Typ
 pub record GrowsTo (old bytes new left : List ℕ) : Type 0 where
   pub joined : old ++ bytes ≡ new ++ left
   pub kept : take (length old) new ≡ old
-  pub front : IsWholeFrame new ⊎ ((IsSound new × IsUnfinished new × (left ≡ [])) ⊎ (IsBad new × (length new ≡ 4)))
+  pub front : IsWholeFrame new ⊎ ((HasNoBadLen new × IsUnfinished new × (left ≡ [])) ⊎ (IsBad new × (length new ≡ 4)))

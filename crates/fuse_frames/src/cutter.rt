@@ -1,8 +1,8 @@
 //! The cutter: bytes go in in pieces of any length, and whole frames come out.
 ghost use Rattle.std.specs.Prelude.{◌≡◌, ◌≤◌, ◌+◌, ◌^◌, List, [], length, ℕ};
-ghost use Rattle.fuse_frames.specs.Cut.{IsSound};
-ghost use Rattle.fuse_frames.specs.Cutter.{Fed, Finishes, Gives, HasRead, HasStopped, fed, fresh, gave_after, stream_after};
-ghost use Rattle.fuse_frames.specs.Kept.{IsKept, Says, TakenIn};
+ghost use Rattle.fuse_frames.specs.Cut.{HasNoBadLen};
+ghost use Rattle.fuse_frames.specs.Cutter.{Fed, Finishes, GivesNext, HasRead, HasStopped, fed, fresh, gave_after, stream_after};
+ghost use Rattle.fuse_frames.specs.Kept.{IsCutter, Says, TakenIn};
 ghost use Rattle.fuse_frames.specs.declared.fault.CutFault.{CutFault};
 
 use crate::fault::CutFault;
@@ -27,13 +27,13 @@ pub struct FrameCutter {
 impl Model for FrameCutter {
     ghost use Rattle.std.specs.Prelude.{◌≡◌};
     ghost use Rattle.fuse_frames.specs.Cutter.{Cutter, place};
-    ghost use Rattle.fuse_frames.specs.Kept.{IsKept};
+    ghost use Rattle.fuse_frames.specs.Kept.{IsCutter};
 
     ghost Value = { Cutter };
 
     ghost view = { λ c. record { given = c.given; held = c.held.items; rest = c.rest.items } };
 
-    ghost invariant = { λ c. let cutter : Cutter = record { given = c.given; held = c.held.items; rest = c.rest.items } in IsKept cutter × (c.rest_place ≡ place cutter) };
+    ghost invariant = { λ c. let cutter : Cutter = record { given = c.given; held = c.held.items; rest = c.rest.items } in IsCutter cutter × (c.rest_place ≡ place cutter) };
 }
 
 impl FrameCutter {
@@ -75,7 +75,7 @@ impl FrameCutter {
 
     /// The frame that has waited longest; none where no whole frame waits.
     pub fn next(&mut self) -> Option<Bytes>
-        ensures answer { Gives self.old result self.new }
+        ensures answer { GivesNext self.old result self.new }
         ensures bytes { fed self.new ≡ fed self.old }
         ensures stays { (fault : CutFault) → HasStopped fault self.old → HasStopped fault self.new }
 
@@ -107,7 +107,7 @@ impl FrameCutter {
     /// The bad len that was come upon, with its place.
     fn sound(&self) -> Result<(), CutFault>
         ensures says { Says self.now result }
-        ensures kept { IsKept self.now }
+        ensures kept { IsCutter self.now }
     {
         match bad_len(self.rest.as_slice(), self.rest_place) {
             Some(fault) => Err(fault),
@@ -116,7 +116,7 @@ impl FrameCutter {
     }
 
     fn take_in(&mut self, bytes: &[u8]) -> Result<(), NoMemory>
-        requires sound { IsSound self.old.rest }
+        requires sound { HasNoBadLen self.old.rest }
         requires room { fed self.old + length bytes.now ≤ 2 ^ 62 }
         ensures { TakenIn self.old bytes.now result self.new }
     {

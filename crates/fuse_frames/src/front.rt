@@ -2,8 +2,8 @@
 ghost use Rattle.std.specs.Prelude.{◌≡◌, ◌≤◌, ◌++◌, ◌⊎◌, [], IfOk, MatchOption, OnErr, length, take};
 ghost use Rattle.fuse_head.specs.Head.{longest_frame, IsWholeFrame};
 ghost use Rattle.fuse_head.specs.Little as little;
-ghost use Rattle.fuse_frames.specs.Cut.{Cuts, IsSound, IsUnfinished};
-ghost use Rattle.fuse_frames.specs.Front.{Begins, Fills, GrowsTo, SaysBadLen, SaysLen};
+ghost use Rattle.fuse_frames.specs.Cut.{Cuts, HasNoBadLen, IsUnfinished};
+ghost use Rattle.fuse_frames.specs.Front.{BeginsWithFrame, Fills, GrowsTo, SaysBadLen, SaysLen};
 
 use crate::fault::CutFault;
 use fuse_head::{LONGEST_FRAME, u32_at};
@@ -47,7 +47,7 @@ pub(crate) fn told_len(rest: &[u8]) -> Option<usize>
 
 /// The whole frame at the front of `bytes`, and what stands behind it.
 fn first_frame(bytes: &[u8]) -> Option<(&[u8], &[u8])>
-    ensures { MatchOption result (IsUnfinished bytes.now) (λ cut. Begins bytes.now cut.0.now cut.1.now) }
+    ensures { MatchOption result (IsUnfinished bytes.now) (λ cut. BeginsWithFrame bytes.now cut.0.now cut.1.now) }
 {
     let Some(len) = told_len(bytes) else {
         return None;
@@ -94,7 +94,7 @@ fn fill<'a>(rest: &mut Vec<u8>, size: usize, bytes: &'a [u8]) -> Result<&'a [u8]
 /// Moves bytes from the front of `bytes` behind `rest` until the frame that it begins is whole, or its len is known to
 /// be bad, or none is left, and hands back those that are left. Where memory is refused, `rest` may have grown.
 pub(crate) fn grow<'a>(rest: &mut Vec<u8>, bytes: &'a [u8]) -> Result<&'a [u8], NoMemory>
-    requires sound { IsSound rest.old.items }
+    requires sound { HasNoBadLen rest.old.items }
     requires unfinished { IsUnfinished rest.old.items }
     ensures ok { IfOk result (λ left. GrowsTo rest.old.items bytes.entry.now rest.new.items left.now) }
     ensures err { OnErr result (take (length rest.old.items) rest.new.items ≡ rest.old.items) }

@@ -1,7 +1,7 @@
 //! One piece more: how a frame that has begun grows, and which frames become whole.
 ghost use Rattle.std.specs.Prelude.{◌≡◌, ◌≤◌, ◌+◌, ◌++◌, [], ◌∷◌, IfNone, IfOk, IfSome, OnErr, length, take};
 ghost use Rattle.std.specs.VecDeque.{deque_capacity, deque_len};
-ghost use Rattle.fuse_frames.specs.Cut.{IsSound, IsUnfinished, Keeps};
+ghost use Rattle.fuse_frames.specs.Cut.{HasNoBadLen, IsUnfinished, IsKeptOf};
 ghost use Rattle.fuse_frames.specs.Kept.{Ends, IsPieces, Waits};
 
 use crate::front::{bad_len, grow, whole_frames};
@@ -25,7 +25,7 @@ pub(crate) fn advance(
     rest: &mut Vec<u8>,
     bytes: &[u8],
 ) -> Result<Option<Pieces>, NoMemory>
-    requires sound { IsSound rest.old.items }
+    requires sound { HasNoBadLen rest.old.items }
     requires unfinished { IsUnfinished rest.old.items }
     ensures waits { IfOk result (λ o. IfNone o (Waits rest.old.items bytes.now rest.new.items)) }
     ensures ends { IfOk result (λ o. IfSome o (λ p. Ends rest.old.items bytes.now rest.new.items p.frames.items p.rest.items p.size)) }
@@ -67,7 +67,7 @@ fn cut(held: &mut VecDeque<Bytes>, bytes: &[u8]) -> Result<Pieces, NoMemory>
 
 /// What is kept of a rest: all of it, or the four bytes of a bad len.
 fn known(rest: &[u8]) -> &[u8]
-    ensures { Keeps rest.now result.now }
+    ensures { IsKeptOf rest.now result.now }
 {
     match bad_len(rest, 0) {
         Some(_) => &rest[..4],

@@ -13,7 +13,7 @@ use Rattle.fuse_replies.specs.declared.reply.Reply.TheVariants.{Error, Entry, At
 use Rattle.fuse_replies.specs.declared.reply.ReplyKind.{ReplyKind}
 use Rattle.fuse_replies.specs.declared.reply.ReplyKind.TheVariants as kinds
 use Rattle.fuse_replies.specs.Layouts.{attr_out_text, dirents_text, entry_text, init_text, open_text, statfs_text, u16s, u32s, waits_text, written_text}
-use Rattle.fuse_replies.specs.Reading.{created_text, numbers_text, AreNumbers, IsBody, IsCreated, Reads, ReadsBody, Refuses}
+use Rattle.fuse_replies.specs.Reading.{created_text, numbers_text, AreNumbers, IsBody, IsCreated, Reads, ReadsBody, FaultsWhere}
 use Rattle.fuse_replies.specs.Replies.{body_of, without_spare, IsAttr, IsDirent, IsEntry}
 use Rattle.fuse_replies.proofs.DirentLemmas.{dirents_same}
 use Rattle.fuse_replies.proofs.ReadLemmas.{untrue}
@@ -262,7 +262,7 @@ reads_dirents row ds bytes items fits is all = record {
       rw items (ap listed (dirents_same ds of.0 all of.2 (sym is ∙ of.3)) ∙ sym of.1);
 }
 
-pub reads_no_dirents : (bytes : List ℕ) (fault : ReplyFault) → Refuses fault ((ds : List Dirent) → All IsDirent ds → bytes ≢ dirents_text ds) → ReadsBody kinds.Dirents bytes (Err fault)
+pub reads_no_dirents : (bytes : List ℕ) (fault : ReplyFault) → FaultsWhere fault ((ds : List Dirent) → All IsDirent ds → bytes ≢ dirents_text ds) → ReadsBody kinds.Dirents bytes (Err fault)
 reads_no_dirents bytes faults.NoMemory none = record { found = tt; again = λ reply body. refl }
 reads_no_dirents bytes faults.Malformed none = record {
   found = tt;

@@ -10,7 +10,7 @@ use Rattle.fuse_replies.specs.declared.fault.ReplyFault.{ReplyFault}
 use Rattle.fuse_replies.specs.declared.fault.ReplyFault.TheVariants as faults
 use Rattle.fuse_replies.specs.declared.reply.Dirent.{Dirent}
 use Rattle.fuse_replies.specs.Layouts.{dirent_text, dirents_text, padding_of, u32s}
-use Rattle.fuse_replies.specs.Reading.{front_at, front_text, IsFront, Reads, Refuses}
+use Rattle.fuse_replies.specs.Reading.{front_at, front_text, IsFront, Reads, FaultsWhere}
 use Rattle.fuse_replies.specs.Replies.{IsDirent}
 use Rattle.fuse_replies.proofs.ReadLemmas.{back_is, front_is, u32_at-behind, u64_at-u64s}
 use Rattle.fuse_replies.proofs.TextLemmas.{length-dirent_text, length-u32s, length-u64s}
@@ -72,7 +72,7 @@ name_again f d rest bytes back name after f-is back-is is long parts =
     sym (front_is back d.name (replicate (padding_of (length d.name)) 0 ++ rest) (length d.name) refl (back-is ∙ left_behind d rest bytes is)) ∙ front_is back name after (length d.name) len parts
 
 -- a fault is handed on
-pub refuses : (fault : ReplyFault) (Q Q' : Type 0) → (Q → Q') → Refuses fault Q → Refuses fault Q'
+pub refuses : (fault : ReplyFault) (Q Q' : Type 0) → (Q → Q') → FaultsWhere fault Q → FaultsWhere fault Q'
 refuses faults.NoMemory Q Q' on given = tt
 refuses faults.Malformed Q Q' on given = on given
 

@@ -52,15 +52,15 @@ abbrev pub AreNumbers : ℕ × ℕ → Type 0
 AreNumbers x = (x.0 < 2 ^ 32) × (x.1 < 2 ^ 32)
 
 -- A fault says that the bytes are malformed only where this holds.
-abbrev pub Refuses : ReplyFault → Type 0 → Type 0
-Refuses faults.NoMemory Q = Unit {0}
-Refuses faults.Malformed Q = Q
+abbrev pub FaultsWhere : ReplyFault → Type 0 → Type 0
+FaultsWhere faults.NoMemory Q = Unit {0}
+FaultsWhere faults.Malformed Q = Q
 
 -- What a reader that takes memory answers: a value of which the first holds, or a fault for the reason of the
 -- second.
-abbrev pub Finds : {A : Type 0} → Result A ReplyFault → (A → Type 0) → Type 0 → Type 0
-Finds (Ok x) P Q = P x
-Finds (Err fault) P Q = Refuses fault Q
+abbrev pub ReadsOrFaults : {A : Type 0} → Result A ReplyFault → (A → Type 0) → Type 0 → Type 0
+ReadsOrFaults (Ok x) P Q = P x
+ReadsOrFaults (Err fault) P Q = FaultsWhere fault Q
 
 -- the front of a fuse_dirent, 24 bytes: ino, off, namelen and type
 abbrev pub front_text : DirentFront → List ℕ

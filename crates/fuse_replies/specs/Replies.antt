@@ -123,6 +123,6 @@ pub record IsFrame (kind : ReplyKind) (unique : ℕ) (reply : Reply) (bytes : Li
   pub text : bytes ≡ frame_of unique reply
 
 -- what was read is this unique and this reply, unless memory was refused
-abbrev pub GivesBack : ℕ → Reply → Result (ℕ × Reply) ReplyFault → Type 0
-GivesBack unique reply (Ok read) = (read.0 ≡ unique) × (without_spare read.1 ≡ without_spare reply)
-GivesBack unique reply (Err fault) = fault ≡ faults.NoMemory
+abbrev pub ReadsBack : ℕ → Reply → Result (ℕ × Reply) ReplyFault → Type 0
+ReadsBack unique reply (Ok read) = (read.0 ≡ unique) × (without_spare read.1 ≡ without_spare reply)
+ReadsBack unique reply (Err fault) = fault ≡ faults.NoMemory

@@ -4,7 +4,7 @@ ghost use Rattle.std.specs.Str.{IsUtf8};
 ghost use Rattle.fuse_replies.specs.declared.reply.Dirent.{Dirent as DirentValue};
 ghost use Rattle.fuse_replies.specs.Layouts as layouts;
 ghost use Rattle.fuse_replies.specs.Layouts.{dirent_text, dirents_text, padding_of};
-ghost use Rattle.fuse_replies.specs.Reading.{front_text, Finds, IsFront, Reads, SplitsName, Strips};
+ghost use Rattle.fuse_replies.specs.Reading.{front_text, ReadsOrFaults, IsFront, Reads, SplitsName, Strips};
 ghost use Rattle.fuse_replies.specs.Replies.{IsDirent};
 
 use crate::fault::ReplyFault;
@@ -136,7 +136,7 @@ fn strip_zeros(bytes: &[u8], count: u32) -> Option<&[u8]>
 
 /// The text of these bytes, where they are UTF-8.
 fn text_of(alloc: Global, bytes: &[u8]) -> Result<Text, ReplyFault>
-    ensures { Finds result (λ text. (text ≡ bytes.now) × IsUtf8 bytes.now) (¬ (IsUtf8 bytes.now)) }
+    ensures { ReadsOrFaults result (λ text. (text ≡ bytes.now) × IsUtf8 bytes.now) (¬ (IsUtf8 bytes.now)) }
 {
     match str::from_utf8(bytes) {
         Ok(text) => Ok(Text::of(alloc, text)?),
@@ -146,7 +146,7 @@ fn text_of(alloc: Global, bytes: &[u8]) -> Result<Text, ReplyFault>
 
 /// The dirent at the front of the bytes, and what follows it.
 fn next_dirent(alloc: Global, bytes: &[u8]) -> Result<(Dirent, &[u8]), ReplyFault>
-    ensures { Finds result (λ found. (bytes.now ≡ dirent_text found.0 ++ found.1.now) × IsDirent found.0) ((dirent : DirentValue) (rest : List ℕ) → IsDirent dirent → bytes.now ≢ dirent_text dirent ++ rest) }
+    ensures { ReadsOrFaults result (λ found. (bytes.now ≡ dirent_text found.0 ++ found.1.now) × IsDirent found.0) ((dirent : DirentValue) (rest : List ℕ) → IsDirent dirent → bytes.now ≢ dirent_text dirent ++ rest) }
 {
     if bytes.len() < 24 {
         return Err(ReplyFault::Malformed);
@@ -165,7 +165,7 @@ fn next_dirent(alloc: Global, bytes: &[u8]) -> Result<(Dirent, &[u8]), ReplyFaul
 
 /// The dirents whose text the bytes are.
 pub(crate) fn dirents_of(alloc: Global, body: &[u8]) -> Result<Vec<Dirent>, ReplyFault>
-    ensures { Finds result (λ dirents. (body.now ≡ dirents_text dirents.items) × All IsDirent dirents.items) ((dirents : List DirentValue) → All IsDirent dirents → body.now ≢ dirents_text dirents) }
+    ensures { ReadsOrFaults result (λ dirents. (body.now ≡ dirents_text dirents.items) × All IsDirent dirents.items) ((dirents : List DirentValue) → All IsDirent dirents → body.now ≢ dirents_text dirents) }
 {
     let mut dirents = Vec::new(alloc);
     let mut rest = body;

@@ -4,7 +4,7 @@ ghost use Rattle.fuse_replies.specs.declared.fault.ReplyFault.TheVariants as fau
 ghost use Rattle.fuse_replies.specs.declared.reply.Reply.{Reply as ReplyValue};
 ghost use Rattle.fuse_replies.specs.declared.reply.ReplyKind.TheVariants as kinds;
 ghost use Rattle.fuse_replies.specs.Reading.{ReadsBody, SplitsHead};
-ghost use Rattle.fuse_replies.specs.Replies.{without_spare, GivesBack, HasPayload, IsFrame};
+ghost use Rattle.fuse_replies.specs.Replies.{without_spare, ReadsBack, HasPayload, IsFrame};
 
 use crate::bodies::{attr_out_of, created_of, entry_of, is_statfs, open_of, written_of};
 use crate::dirents::dirents_of;
@@ -31,7 +31,7 @@ pub fn read_reply(alloc: Global, kind: ReplyKind, bytes: &[u8]) -> Result<(u64, 
     ensures ok { IfOk result (λ read. IsFrame kind read.0 (without_spare read.1) bytes.now) }
 
     // The frame of a reply gives the reply back.
-    ensures again { (unique : ℕ) (reply : ReplyValue) → IsFrame kind unique reply bytes.now → GivesBack unique reply result }
+    ensures again { (unique : ℕ) (reply : ReplyValue) → IsFrame kind unique reply bytes.now → ReadsBack unique reply result }
 
     // Bytes are malformed only where they are the frame of no reply.
     ensures malformed { result ≡ Err faults.Malformed → (unique : ℕ) (reply : ReplyValue) → IsFrame kind unique reply bytes.now → ⊥ }

@@ -60,17 +60,17 @@ IsReadAs P (Err fault) = ⊥
 
 -- What a fault that a call returned says of what reading gives: that fault; and where memory ran out, a value of the
 -- kind that takes memory.
-abbrev pub Refuses : {A : Type 0} → (A → Type 0) → BodyFault → Result A BodyFault → Type 0
-Refuses takes NoMemory read = IsReadAs takes read
-Refuses takes Short read = read ≡ Err Short
-Refuses takes NoZeroByte read = read ≡ Err NoZeroByte
-Refuses takes LongTail read = read ≡ Err LongTail
-Refuses takes BadCount read = read ≡ Err BadCount
+abbrev pub IsFaultOf : {A : Type 0} → (A → Type 0) → BodyFault → Result A BodyFault → Type 0
+IsFaultOf takes NoMemory read = IsReadAs takes read
+IsFaultOf takes Short read = read ≡ Err Short
+IsFaultOf takes NoZeroByte read = read ≡ Err NoZeroByte
+IsFaultOf takes LongTail read = read ≡ Err LongTail
+IsFaultOf takes BadCount read = read ≡ Err BadCount
 
 -- What a call returned, seen by view, is what reading gives; memory may run out for a value of the kind that takes it.
-abbrev pub Gives : {X A : Type 0} → (X → A) → (A → Type 0) → Result X BodyFault → Result A BodyFault → Type 0
-Gives view takes (Ok x) read = read ≡ Ok (view x)
-Gives view takes (Err fault) read = Refuses takes fault read
+abbrev pub ReadsAs : {X A : Type 0} → (X → A) → (A → Type 0) → Result X BodyFault → Result A BodyFault → Type 0
+ReadsAs view takes (Ok x) read = read ≡ Ok (view x)
+ReadsAs view takes (Err fault) read = IsFaultOf takes fault read
 
 -- of a value for which no memory is taken, and of one for which it always is
 abbrev pub never : {A : Type 0} → A → Type 0

@@ -4,7 +4,7 @@ ghost use Rattle.std.specs.Prelude.{◌≡◌};
 ghost use Rattle.fuse_requests.specs.Fields.{fields_of};
 ghost use Rattle.fuse_requests.specs.Mounts as layouts;
 ghost use Rattle.fuse_requests.specs.Layout.{read_body};
-ghost use Rattle.fuse_requests.specs.Parts.{Gives};
+ghost use Rattle.fuse_requests.specs.Parts.{ReadsAs};
 ghost use Rattle.fuse_requests.specs.Grammar.{without_spare, HasPayload};
 
 use crate::fault::BodyFault;
@@ -16,7 +16,7 @@ use std::alloc::Global;
 
 /// Reads the body of FORGET: [`forget_in`].
 pub(crate) fn forget(node: u64, body: &[u8]) -> Result<Request, BodyFault>
-    ensures { Gives without_spare HasPayload result (read_body (layouts.forget node) body.now) }
+    ensures { ReadsAs without_spare HasPayload result (read_body (layouts.forget node) body.now) }
 {
     let rest = after_fixed(body, 8)?;
     ended(rest)?;
@@ -35,7 +35,7 @@ pub(crate) fn forget_in(count: u64) -> [Field; 1]
 
 /// Reads the body of STATFS, which is empty.
 pub(crate) fn statfs(body: &[u8]) -> Result<Request, BodyFault>
-    ensures { Gives without_spare HasPayload result (read_body (layouts.statfs) body.now) }
+    ensures { ReadsAs without_spare HasPayload result (read_body (layouts.statfs) body.now) }
 {
     let rest = after_fixed(body, 0)?;
     ended(rest)?;
@@ -44,7 +44,7 @@ pub(crate) fn statfs(body: &[u8]) -> Result<Request, BodyFault>
 
 /// Reads the body of INIT: [`init_in`]. What later minors have behind it is ignored.
 pub(crate) fn init(body: &[u8]) -> Result<Request, BodyFault>
-    ensures { Gives without_spare HasPayload result (read_body (layouts.init) body.now) }
+    ensures { ReadsAs without_spare HasPayload result (read_body (layouts.init) body.now) }
 {
     let _later = after_fixed(body, 16)?;
     Ok(Request::Init {
@@ -69,7 +69,7 @@ pub(crate) fn init_in(major: u32, minor: u32, readahead: u32, flags: u32) -> [Fi
 
 /// Reads the body of INTERRUPT: [`interrupt_in`].
 pub(crate) fn interrupt(body: &[u8]) -> Result<Request, BodyFault>
-    ensures { Gives without_spare HasPayload result (read_body (layouts.interrupt) body.now) }
+    ensures { ReadsAs without_spare HasPayload result (read_body (layouts.interrupt) body.now) }
 {
     let rest = after_fixed(body, 8)?;
     ended(rest)?;
@@ -85,7 +85,7 @@ pub(crate) fn interrupt_in() -> [Field; 1]
 
 /// Reads the body of DESTROY, which is empty.
 pub(crate) fn destroy(body: &[u8]) -> Result<Request, BodyFault>
-    ensures { Gives without_spare HasPayload result (read_body (layouts.destroy) body.now) }
+    ensures { ReadsAs without_spare HasPayload result (read_body (layouts.destroy) body.now) }
 {
     let rest = after_fixed(body, 0)?;
     ended(rest)?;
@@ -94,7 +94,7 @@ pub(crate) fn destroy(body: &[u8]) -> Result<Request, BodyFault>
 
 /// Reads the body of BATCH_FORGET: [`batch_forget_in`] and as many pairs as its count tells.
 pub(crate) fn batch_forget(alloc: Global, body: &[u8]) -> Result<Request, BodyFault>
-    ensures { Gives without_spare HasPayload result (read_body (layouts.batch_forget) body.now) }
+    ensures { ReadsAs without_spare HasPayload result (read_body (layouts.batch_forget) body.now) }
 {
     let rest = after_fixed(body, 8)?;
     let pairs = last_pairs(alloc, rest, u32_at(body, 0) as usize)?;

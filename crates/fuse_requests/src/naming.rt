@@ -3,7 +3,7 @@ ghost use Rattle.std.specs.Prelude.{◌≡◌};
 ghost use Rattle.fuse_requests.specs.Fields.{fields_of};
 ghost use Rattle.fuse_requests.specs.Naming as layouts;
 ghost use Rattle.fuse_requests.specs.Layout.{read_body};
-ghost use Rattle.fuse_requests.specs.Parts.{Gives};
+ghost use Rattle.fuse_requests.specs.Parts.{ReadsAs};
 ghost use Rattle.fuse_requests.specs.Grammar.{without_spare, HasPayload};
 
 use crate::fault::BodyFault;
@@ -15,7 +15,7 @@ use std::alloc::Global;
 
 /// Reads the body of LOOKUP: a name.
 pub(crate) fn lookup(alloc: Global, node: u64, body: &[u8]) -> Result<Request, BodyFault>
-    ensures { Gives without_spare HasPayload result (read_body (layouts.lookup node) body.now) }
+    ensures { ReadsAs without_spare HasPayload result (read_body (layouts.lookup node) body.now) }
 {
     let rest = after_fixed(body, 0)?;
     let name = last_name(alloc, rest)?;
@@ -24,7 +24,7 @@ pub(crate) fn lookup(alloc: Global, node: u64, body: &[u8]) -> Result<Request, B
 
 /// Reads the body of SYMLINK: the link's name, then its target as a name.
 pub(crate) fn symlink(alloc: Global, node: u64, body: &[u8]) -> Result<Request, BodyFault>
-    ensures { Gives without_spare HasPayload result (read_body (layouts.symlink node) body.now) }
+    ensures { ReadsAs without_spare HasPayload result (read_body (layouts.symlink node) body.now) }
 {
     let rest = after_fixed(body, 0)?;
     let (name, target) = last_two_names(alloc, rest)?;
@@ -33,7 +33,7 @@ pub(crate) fn symlink(alloc: Global, node: u64, body: &[u8]) -> Result<Request, 
 
 /// Reads the body of MKNOD: [`mknod_in`] and a name.
 pub(crate) fn mknod(alloc: Global, node: u64, body: &[u8]) -> Result<Request, BodyFault>
-    ensures { Gives without_spare HasPayload result (read_body (layouts.mknod node) body.now) }
+    ensures { ReadsAs without_spare HasPayload result (read_body (layouts.mknod node) body.now) }
 {
     let rest = after_fixed(body, 16)?;
     let mode = u32_at(body, 0);
@@ -55,7 +55,7 @@ pub(crate) fn mknod_in(mode: u32) -> [Field; 4]
 
 /// Reads the body of MKDIR: [`mkdir_in`] and a name.
 pub(crate) fn mkdir(alloc: Global, node: u64, body: &[u8]) -> Result<Request, BodyFault>
-    ensures { Gives without_spare HasPayload result (read_body (layouts.mkdir node) body.now) }
+    ensures { ReadsAs without_spare HasPayload result (read_body (layouts.mkdir node) body.now) }
 {
     let rest = after_fixed(body, 8)?;
     let name = last_name(alloc, rest)?;
@@ -71,7 +71,7 @@ pub(crate) fn mkdir_in() -> [Field; 2]
 
 /// Reads the body of UNLINK: a name.
 pub(crate) fn unlink(alloc: Global, node: u64, body: &[u8]) -> Result<Request, BodyFault>
-    ensures { Gives without_spare HasPayload result (read_body (layouts.unlink node) body.now) }
+    ensures { ReadsAs without_spare HasPayload result (read_body (layouts.unlink node) body.now) }
 {
     let rest = after_fixed(body, 0)?;
     let name = last_name(alloc, rest)?;
@@ -80,7 +80,7 @@ pub(crate) fn unlink(alloc: Global, node: u64, body: &[u8]) -> Result<Request, B
 
 /// Reads the body of RMDIR: a name.
 pub(crate) fn rmdir(alloc: Global, node: u64, body: &[u8]) -> Result<Request, BodyFault>
-    ensures { Gives without_spare HasPayload result (read_body (layouts.rmdir node) body.now) }
+    ensures { ReadsAs without_spare HasPayload result (read_body (layouts.rmdir node) body.now) }
 {
     let rest = after_fixed(body, 0)?;
     let name = last_name(alloc, rest)?;
@@ -89,7 +89,7 @@ pub(crate) fn rmdir(alloc: Global, node: u64, body: &[u8]) -> Result<Request, Bo
 
 /// Reads the body of RENAME: [`rename_in`], the old name and the new one.
 pub(crate) fn rename(alloc: Global, node: u64, body: &[u8]) -> Result<Request, BodyFault>
-    ensures { Gives without_spare HasPayload result (read_body (layouts.rename node) body.now) }
+    ensures { ReadsAs without_spare HasPayload result (read_body (layouts.rename node) body.now) }
 {
     let rest = after_fixed(body, 8)?;
     let newdir = u64_at(body, 0);
@@ -111,7 +111,7 @@ pub(crate) fn rename_in(newdir: u64) -> [Field; 1]
 
 /// Reads the body of CREATE: [`create_in`] and a name.
 pub(crate) fn create(alloc: Global, node: u64, body: &[u8]) -> Result<Request, BodyFault>
-    ensures { Gives without_spare HasPayload result (read_body (layouts.create node) body.now) }
+    ensures { ReadsAs without_spare HasPayload result (read_body (layouts.create node) body.now) }
 {
     let rest = after_fixed(body, 16)?;
     let name = last_name(alloc, rest)?;
@@ -132,7 +132,7 @@ pub(crate) fn create_in() -> [Field; 4]
 
 /// Reads the body of RENAME2: [`rename2_in`], the old name and the new one.
 pub(crate) fn rename2(alloc: Global, node: u64, body: &[u8]) -> Result<Request, BodyFault>
-    ensures { Gives without_spare HasPayload result (read_body (layouts.rename2 node) body.now) }
+    ensures { ReadsAs without_spare HasPayload result (read_body (layouts.rename2 node) body.now) }
 {
     let rest = after_fixed(body, 16)?;
     let newdir = u64_at(body, 0);

@@ -4,7 +4,7 @@ ghost use Rattle.std.specs.Prelude.{◌≡◌};
 ghost use Rattle.fuse_requests.specs.Fields.{fields_of};
 ghost use Rattle.fuse_requests.specs.Nodes as layouts;
 ghost use Rattle.fuse_requests.specs.Layout.{read_body};
-ghost use Rattle.fuse_requests.specs.Parts.{Gives};
+ghost use Rattle.fuse_requests.specs.Parts.{ReadsAs};
 ghost use Rattle.fuse_requests.specs.Grammar.{without_spare, HasPayload};
 
 use crate::fault::BodyFault;
@@ -16,7 +16,7 @@ use std::alloc::Global;
 
 /// Reads the body of GETATTR: [`getattr_in`].
 pub(crate) fn getattr(node: u64, body: &[u8]) -> Result<Request, BodyFault>
-    ensures { Gives without_spare HasPayload result (read_body (layouts.getattr node) body.now) }
+    ensures { ReadsAs without_spare HasPayload result (read_body (layouts.getattr node) body.now) }
 {
     let rest = after_fixed(body, 16)?;
     ended(rest)?;
@@ -32,7 +32,7 @@ pub(crate) fn getattr_in() -> [Field; 3]
 
 /// Reads the body of SETATTR: [`setattr_in`].
 pub(crate) fn setattr(node: u64, body: &[u8]) -> Result<Request, BodyFault>
-    ensures { Gives without_spare HasPayload result (read_body (layouts.setattr node) body.now) }
+    ensures { ReadsAs without_spare HasPayload result (read_body (layouts.setattr node) body.now) }
 {
     let rest = after_fixed(body, 88)?;
     ended(rest)?;
@@ -72,7 +72,7 @@ pub(crate) fn setattr_in(valid: u32, size: u64, mtime: u64, nanos: u32) -> [Fiel
 
 /// Reads the body of READLINK, which is empty.
 pub(crate) fn readlink(node: u64, body: &[u8]) -> Result<Request, BodyFault>
-    ensures { Gives without_spare HasPayload result (read_body (layouts.readlink node) body.now) }
+    ensures { ReadsAs without_spare HasPayload result (read_body (layouts.readlink node) body.now) }
 {
     let rest = after_fixed(body, 0)?;
     ended(rest)?;
@@ -81,7 +81,7 @@ pub(crate) fn readlink(node: u64, body: &[u8]) -> Result<Request, BodyFault>
 
 /// Reads the body of OPEN: [`open_in`].
 pub(crate) fn opening(node: u64, body: &[u8]) -> Result<Request, BodyFault>
-    ensures { Gives without_spare HasPayload result (read_body (layouts.opening node) body.now) }
+    ensures { ReadsAs without_spare HasPayload result (read_body (layouts.opening node) body.now) }
 {
     let rest = after_fixed(body, 8)?;
     ended(rest)?;
@@ -93,7 +93,7 @@ pub(crate) fn opening(node: u64, body: &[u8]) -> Result<Request, BodyFault>
 
 /// Reads the body of OPENDIR: [`open_in`], its flags not kept.
 pub(crate) fn opendir(node: u64, body: &[u8]) -> Result<Request, BodyFault>
-    ensures { Gives without_spare HasPayload result (read_body (layouts.opendir node) body.now) }
+    ensures { ReadsAs without_spare HasPayload result (read_body (layouts.opendir node) body.now) }
 {
     let rest = after_fixed(body, 8)?;
     ended(rest)?;
@@ -109,7 +109,7 @@ pub(crate) fn open_in(flags: u32) -> [Field; 2]
 
 /// Reads the body of READ: [`read_in`].
 pub(crate) fn reading(node: u64, body: &[u8]) -> Result<Request, BodyFault>
-    ensures { Gives without_spare HasPayload result (read_body (layouts.reading node) body.now) }
+    ensures { ReadsAs without_spare HasPayload result (read_body (layouts.reading node) body.now) }
 {
     let rest = after_fixed(body, 40)?;
     ended(rest)?;
@@ -123,7 +123,7 @@ pub(crate) fn reading(node: u64, body: &[u8]) -> Result<Request, BodyFault>
 
 /// Reads the body of READDIR: [`read_in`].
 pub(crate) fn readdir(node: u64, body: &[u8]) -> Result<Request, BodyFault>
-    ensures { Gives without_spare HasPayload result (read_body (layouts.readdir node) body.now) }
+    ensures { ReadsAs without_spare HasPayload result (read_body (layouts.readdir node) body.now) }
 {
     let rest = after_fixed(body, 40)?;
     ended(rest)?;
@@ -137,7 +137,7 @@ pub(crate) fn readdir(node: u64, body: &[u8]) -> Result<Request, BodyFault>
 
 /// Reads the body of WRITE: [`read_in`] and as many bytes as its size tells.
 pub(crate) fn writing(alloc: Global, node: u64, body: &[u8]) -> Result<Request, BodyFault>
-    ensures { Gives without_spare HasPayload result (read_body (layouts.writing node) body.now) }
+    ensures { ReadsAs without_spare HasPayload result (read_body (layouts.writing node) body.now) }
 {
     let rest = after_fixed(body, 40)?;
     let fh = u64_at(body, 0);
@@ -169,7 +169,7 @@ pub(crate) fn read_in(fh: u64, first: u64, size: u32) -> [Field; 7]
 
 /// Reads the body of RELEASE: [`release_in`].
 pub(crate) fn release(node: u64, body: &[u8]) -> Result<Request, BodyFault>
-    ensures { Gives without_spare HasPayload result (read_body (layouts.release node) body.now) }
+    ensures { ReadsAs without_spare HasPayload result (read_body (layouts.release node) body.now) }
 {
     let rest = after_fixed(body, 24)?;
     ended(rest)?;
@@ -181,7 +181,7 @@ pub(crate) fn release(node: u64, body: &[u8]) -> Result<Request, BodyFault>
 
 /// Reads the body of RELEASEDIR: [`release_in`].
 pub(crate) fn releasedir(node: u64, body: &[u8]) -> Result<Request, BodyFault>
-    ensures { Gives without_spare HasPayload result (read_body (layouts.releasedir node) body.now) }
+    ensures { ReadsAs without_spare HasPayload result (read_body (layouts.releasedir node) body.now) }
 {
     let rest = after_fixed(body, 24)?;
     ended(rest)?;
@@ -205,7 +205,7 @@ pub(crate) fn release_in(fh: u64) -> [Field; 4]
 
 /// Reads the body of FSYNC: [`fsync_in`].
 pub(crate) fn fsync(node: u64, body: &[u8]) -> Result<Request, BodyFault>
-    ensures { Gives without_spare HasPayload result (read_body (layouts.fsync node) body.now) }
+    ensures { ReadsAs without_spare HasPayload result (read_body (layouts.fsync node) body.now) }
 {
     let rest = after_fixed(body, 16)?;
     ended(rest)?;
@@ -217,7 +217,7 @@ pub(crate) fn fsync(node: u64, body: &[u8]) -> Result<Request, BodyFault>
 
 /// Reads the body of FSYNCDIR: [`fsync_in`].
 pub(crate) fn fsyncdir(node: u64, body: &[u8]) -> Result<Request, BodyFault>
-    ensures { Gives without_spare HasPayload result (read_body (layouts.fsyncdir node) body.now) }
+    ensures { ReadsAs without_spare HasPayload result (read_body (layouts.fsyncdir node) body.now) }
 {
     let rest = after_fixed(body, 16)?;
     ended(rest)?;
@@ -236,7 +236,7 @@ pub(crate) fn fsync_in(fh: u64) -> [Field; 3]
 
 /// Reads the body of FLUSH: [`flush_in`].
 pub(crate) fn flush(node: u64, body: &[u8]) -> Result<Request, BodyFault>
-    ensures { Gives without_spare HasPayload result (read_body (layouts.flush node) body.now) }
+    ensures { ReadsAs without_spare HasPayload result (read_body (layouts.flush node) body.now) }
 {
     let rest = after_fixed(body, 24)?;
     ended(rest)?;

@@ -2,7 +2,7 @@
 ghost use Rattle.std.specs.Prelude.{◌≡◌, ◌<◌, ◌≤◌, ◌*◌, ◌^◌, length, position, IfSome, IfOk, OnOk};
 ghost use Rattle.fuse_head.specs.Little as little;
 ghost use Rattle.fuse_requests.specs.Parts as parts;
-ghost use Rattle.fuse_requests.specs.Parts.{Gives, always, never};
+ghost use Rattle.fuse_requests.specs.Parts.{ReadsAs, always, never};
 
 use crate::fault::BodyFault;
 use crate::request::Forgotten;
@@ -12,7 +12,7 @@ use std::alloc::Global;
 
 /// The bytes after a fixed part of `fixed` bytes.
 pub(crate) fn after_fixed(body: &[u8], fixed: usize) -> Result<&[u8], BodyFault>
-    ensures gives { Gives (λ rest. rest.now) never result (parts.after_fixed fixed body.now) }
+    ensures gives { ReadsAs (λ rest. rest.now) never result (parts.after_fixed fixed body.now) }
     ensures ok { OnOk result (fixed ≤ length body.now) }
 {
     if body.len() < fixed {
@@ -24,7 +24,7 @@ pub(crate) fn after_fixed(body: &[u8], fixed: usize) -> Result<&[u8], BodyFault>
 
 /// That nothing is left.
 pub(crate) fn ended(rest: &[u8]) -> Result<(), BodyFault>
-    ensures { Gives (λ x. x) never result (parts.ended rest.now) }
+    ensures { ReadsAs (λ x. x) never result (parts.ended rest.now) }
 {
     match rest {
         [] => Ok(()),
@@ -35,7 +35,7 @@ pub(crate) fn ended(rest: &[u8]) -> Result<(), BodyFault>
 /// A name, which ends before the first zero byte, and the bytes after that one.
 #[tactic(auto, unfolding(crate::specs::Parts::name_at))]
 pub(crate) fn name(bytes: &[u8]) -> Result<(&[u8], &[u8]), BodyFault>
-    ensures { Gives (λ x. (x.0.now, x.1.now)) never result (parts.name_at bytes.now) }
+    ensures { ReadsAs (λ x. (x.0.now, x.1.now)) never result (parts.name_at bytes.now) }
 {
     match zero_place(bytes) {
         None => Err(BodyFault::NoZeroByte),
@@ -57,7 +57,7 @@ fn zero_place(bytes: &[u8]) -> Option<usize>
 
 /// A name of its own, and nothing after it.
 pub(crate) fn last_name(alloc: Global, bytes: &[u8]) -> Result<Bytes, BodyFault>
-    ensures { Gives (λ x. x) always result (parts.last_name bytes.now) }
+    ensures { ReadsAs (λ x. x) always result (parts.last_name bytes.now) }
 {
     let (name, rest) = name(bytes)?;
     ended(rest)?;
@@ -66,7 +66,7 @@ pub(crate) fn last_name(alloc: Global, bytes: &[u8]) -> Result<Bytes, BodyFault>
 
 /// Two names of their own, and nothing after them.
 pub(crate) fn last_two_names(alloc: Global, bytes: &[u8]) -> Result<(Bytes, Bytes), BodyFault>
-    ensures { Gives (λ x. x) always result (parts.last_two_names bytes.now) }
+    ensures { ReadsAs (λ x. x) always result (parts.last_two_names bytes.now) }
 {
     let (first, rest) = name(bytes)?;
     let (second, rest) = name(rest)?;
@@ -78,7 +78,7 @@ pub(crate) fn last_two_names(alloc: Global, bytes: &[u8]) -> Result<(Bytes, Byte
 
 /// Exactly `size` bytes, as a value of their own.
 pub(crate) fn last_bytes(alloc: Global, bytes: &[u8], size: usize) -> Result<Bytes, BodyFault>
-    ensures { Gives (λ x. x) always result (parts.last_bytes size bytes.now) }
+    ensures { ReadsAs (λ x. x) always result (parts.last_bytes size bytes.now) }
 {
     if bytes.len() < size {
         return Err(BodyFault::Short);
@@ -95,7 +95,7 @@ pub(crate) fn last_pairs(
     count: usize,
 ) -> Result<Row<Forgotten>, BodyFault>
     requires { count < 2 ^ 32 }
-    ensures { Gives (λ x. x.items) always result (parts.last_pairs count bytes.now) }
+    ensures { ReadsAs (λ x. x.items) always result (parts.last_pairs count bytes.now) }
 {
     if bytes.len() != 16 * count {
         return Err(BodyFault::BadCount);

@@ -1,7 +1,7 @@
 //! Frames of requests, read.
 ghost use Rattle.std.specs.Prelude.{◌≡◌, ◌≢◌, IfOk, IfErr, Ok};
 ghost use Rattle.fuse_head.specs.Head.{in_head, IsWholeFrame};
-ghost use Rattle.fuse_requests.specs.Parts.{Gives, Refuses};
+ghost use Rattle.fuse_requests.specs.Parts.{ReadsAs, IsFaultOf};
 ghost use Rattle.fuse_requests.specs.Grammar.{naming, of_node, of_mount, read_as, read_frame, request_of, without_spare, HasPayload};
 
 use crate::fault::BodyFault;
@@ -21,7 +21,7 @@ use std::alloc::Global;
 pub fn read_request(alloc: Global, frame: &[u8]) -> Result<Request, BodyFault>
     requires { IsWholeFrame frame.now }
     ensures ok { IfOk result (λ request. read_frame frame.now ≡ Ok (without_spare request)) }
-    ensures err { IfErr result (λ fault. Refuses HasPayload fault (read_frame frame.now)) }
+    ensures err { IfErr result (λ fault. IsFaultOf HasPayload fault (read_frame frame.now)) }
     ensures asked { IfOk result (λ request. request_of frame.now ≡ without_spare request) }
     ensures unknown { IfErr result (λ fault. fault ≢ BodyFault.NoMemory → request_of frame.now ≡ Request.Unknown (in_head frame.now).opcode) }
 {
@@ -32,7 +32,7 @@ pub fn read_request(alloc: Global, frame: &[u8]) -> Result<Request, BodyFault>
 #[tactic(auto, unfolding(crate::specs::Grammar::read_frame))]
 fn read_whole(alloc: Global, frame: &[u8]) -> Result<Request, BodyFault>
     requires { IsWholeFrame frame.now }
-    ensures { Gives without_spare HasPayload result (read_frame frame.now) }
+    ensures { ReadsAs without_spare HasPayload result (read_frame frame.now) }
 {
     let head = head_of(frame);
     let (_, body) = frame.split_at(40);
@@ -41,7 +41,7 @@ fn read_whole(alloc: Global, frame: &[u8]) -> Result<Request, BodyFault>
 
 /// Reads a body of a request that carries names, or another.
 fn read_naming(alloc: Global, opcode: u32, node: u64, body: &[u8]) -> Result<Request, BodyFault>
-    ensures { Gives without_spare HasPayload result (read_as opcode (naming opcode node (of_node opcode node (of_mount opcode node))) body.now) }
+    ensures { ReadsAs without_spare HasPayload result (read_as opcode (naming opcode node (of_node opcode node (of_mount opcode node))) body.now) }
 {
     match opcode {
         opcode::LOOKUP => naming::lookup(alloc, node, body),
@@ -59,7 +59,7 @@ fn read_naming(alloc: Global, opcode: u32, node: u64, body: &[u8]) -> Result<Req
 
 /// Reads a body of a request that speaks of a node or a handle, or another.
 fn read_of_node(alloc: Global, opcode: u32, node: u64, body: &[u8]) -> Result<Request, BodyFault>
-    ensures { Gives without_spare HasPayload result (read_as opcode (of_node opcode node (of_mount opcode node)) body.now) }
+    ensures { ReadsAs without_spare HasPayload result (read_as opcode (of_node opcode node (of_mount opcode node)) body.now) }
 {
     match opcode {
         opcode::GETATTR => nodes::getattr(node, body),
@@ -81,7 +81,7 @@ fn read_of_node(alloc: Global, opcode: u32, node: u64, body: &[u8]) -> Result<Re
 
 /// Reads a body of a request that speaks of the whole mount, or none.
 fn read_of_mount(alloc: Global, opcode: u32, node: u64, body: &[u8]) -> Result<Request, BodyFault>
-    ensures { Gives without_spare HasPayload result (read_as opcode (of_mount opcode node) body.now) }
+    ensures { ReadsAs without_spare HasPayload result (read_as opcode (of_mount opcode node) body.now) }
 {
     match opcode {
         opcode::FORGET => mounts::forget(node, body),

@@ -6,7 +6,7 @@ use Rattle.std.proofs.KnownBytes.{Appends-nil, Appends-trans, Consumes-kept, Con
 use Rattle.std.proofs.Math.Seq.{take-append-add, take-nil}
 use Rattle.io_ports.specs.Faults.{Rose}
 use Rattle.bucket_api.specs.BucketState.{empty_bucket}
-use Rattle.fuse_frames.specs.Cut.{Cuts, IsSound, IsUnfinished}
+use Rattle.fuse_frames.specs.Cut.{Cuts, HasNoBadLen, IsUnfinished}
 use Rattle.fuse_frames.specs.Cutter.{Cutter, fed, fresh}
 use Rattle.fuse_frames.proofs.FrontLemmas.{sound_not_bad, unfinished_untold}
 use Rattle.mount_model.specs.declared.config.Config.{Config}
@@ -130,7 +130,7 @@ HasServed-fed config input put cutter mount so_far =
 nothing_waits : IsUnfinished []
 nothing_waits = unfinished_untold [] (let short : length {A = ℕ} [] < 4 = omega arith in short)
 
-nothing_bad : IsSound []
+nothing_bad : HasNoBadLen []
 nothing_bad = record { least = λ told. absurd (let none : length {A = ℕ} [] ≡ 0 = refl in omega arith); most = λ told. absurd (let none : length {A = ℕ} [] ≡ 0 = refl in omega arith) }
 
 cuts_nothing : Cuts [] [] []

@@ -3,7 +3,7 @@ use Rattle.std.specs.Prelude.{◌≡◌, ◌≢◌, ◌≤◌, ◌+◌, ◌⊎�
 use Rattle.std.specs.List.{concat}
 use Rattle.std.specs.Io.KnownBytes.{Appends, Consumes, IsAtEnd}
 use Rattle.bucket_api.specs.BucketState.{empty_bucket}
-use Rattle.fuse_frames.specs.Cut.{Cuts, IsBelow40, IsOver, IsSound}
+use Rattle.fuse_frames.specs.Cut.{Cuts, IsBelow40, IsOver, HasNoBadLen}
 use Rattle.io_ports.specs.Faults.{Rose}
 use Rattle.mount_model.specs.declared.config.Config.{Config}
 use Rattle.mount_spec.specs.OneThread.{RunState, first_state, Serves, BeginsServing}
@@ -38,7 +38,7 @@ place_of answered = length (concat answered.frames)
 -- 135,168, and 17 that the input ends within it.
 abbrev pub IsFault : ℕ → List ℕ → Type 0 → Type 0
 IsFault number rest at_end =
-    ((number ≡ 15) × IsBelow40 rest) ⊎ (((number ≡ 16) × IsOver rest) ⊎ ((number ≡ 17) × IsSound rest × (rest ≢ []) × at_end))
+    ((number ≡ 15) × IsBelow40 rest) ⊎ (((number ≡ 16) × IsOver rest) ⊎ ((number ≡ 17) × HasNoBadLen rest × (rest ≢ []) × at_end))
 
 -- What an end says of the bytes taken and of the bytes put.
 abbrev pub EndsBy : Config → ServeEnd → Port → List ℕ → List ℕ → Type 0
@@ -48,13 +48,13 @@ EndsBy config (Refused number place) source' taken put =
     (rest : List ℕ) × (answered : Answered config (take longest_input taken) rest put) × (place ≡ place_of answered)
     × IsFault number rest ((length taken ≤ longest_input) × IsAtEnd source'.bytes)
 EndsBy config ReadFault source' taken put =
-    (length taken ≤ longest_input) × (rest : List ℕ) × IsSound rest × Answered config taken rest put
+    (length taken ≤ longest_input) × (rest : List ℕ) × HasNoBadLen rest × Answered config taken rest put
 EndsBy config WriteFault source' taken put =
     PartlyAnswered config (take longest_input taken) put
 EndsBy config NoMemory source' taken put =
     PartlyAnswered config (take longest_input taken) put
 EndsBy config TooLong source' taken put =
-    (length taken ≡ longest_input + 1) × (rest : List ℕ) × IsSound rest × Answered config (take longest_input taken) rest put
+    (length taken ≡ longest_input + 1) × (rest : List ℕ) × HasNoBadLen rest × Answered config (take longest_input taken) rest put
 
 -- What an end says of the source's count of faults: it rose where a read failed, and else it stayed.
 abbrev pub CountsReads : ServeEnd → Port → Port → Type 0

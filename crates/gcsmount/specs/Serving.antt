@@ -3,7 +3,7 @@ use Rattle.std.specs.Prelude.{◌≡◌, ◌≤◌, ◌++◌, ◌⊎◌, ℕ, Li
 use Rattle.std.specs.List.{concat}
 use Rattle.std.specs.Io.KnownBytes.{Appends, Consumes}
 use Rattle.bucket_api.specs.BucketState.{empty_bucket}
-use Rattle.fuse_frames.specs.Cut.{Cuts, IsBelow40, IsOver, IsSound}
+use Rattle.fuse_frames.specs.Cut.{Cuts, IsBelow40, IsOver, HasNoBadLen}
 use Rattle.fuse_frames.specs.Cutter.{Cutter, place}
 use Rattle.mount_model.specs.declared.config.Config.{Config}
 use Rattle.mount_spec.specs.OneThread.{first_state, Serves}
@@ -21,7 +21,7 @@ use Rattle.gcsmount.specs.declared.serve_end.ServeEnd.TheVariants.{Ended, Refuse
 pub record HasServed (config : Config) (input put : List ℕ) (cutter : Cutter) (mount : SerialState) : Type 0 where
   pub frames : List (List ℕ)
   pub cut : Cuts input frames cutter.rest
-  pub sound : IsSound cutter.rest
+  pub sound : HasNoBadLen cutter.rest
   pub none_waits : cutter.held ≡ []
   pub given : cutter.given ≡ length (concat frames)
   pub settings : mount.config ≡ config

@@ -8,11 +8,11 @@ ghost use Rattle.mount_spec.specs.Request.Create as create;
 ghost use Rattle.gcsmount.specs.Performing.{Creates};
 ghost use Rattle.gcsmount.specs.Tables.{AreCounted, model_of, most};
 
-use fuse_replies::errno::{EEXIST, EIO};
 use crate::node_table::NodeTable;
 use crate::store::Store;
 use bucket_api::{Answer, Op};
 use fuse_replies::Reply;
+use fuse_replies::errno::{EEXIST, EIO};
 use handle_table::HandleTable;
 use io_ports::{Bytes, NoMemory, Row, Text};
 use mount_model::Config;

@@ -2,8 +2,8 @@ ghost use Rattle.std.specs.Prelude.{◌≡◌};
 ghost use Rattle.fuse_replies.specs.Replies.{IsSendable, without_spare};
 ghost use Rattle.mount_spec.specs.Request.Init as init;
 
-use fuse_replies::errno::EPROTO;
 use fuse_replies::Reply;
+use fuse_replies::errno::EPROTO;
 
 /// The flags of INIT that the mount grants: ASYNC_READ, BIG_WRITES and PARALLEL_DIROPS.
 const GRANTED_FLAGS: u32 = 0x40021;

@@ -7,11 +7,11 @@ ghost use Rattle.mount_spec.specs.PlainNames.{is_plain_name};
 ghost use Rattle.mount_spec.specs.Request.Lookup as lookup;
 ghost use Rattle.gcsmount.specs.Performing.{LooksUp};
 
-use fuse_replies::errno::{EIO, ENOENT};
 use crate::node_table::NodeTable;
 use crate::store::Store;
 use bucket_api::{Answer, Op};
 use fuse_replies::Reply;
+use fuse_replies::errno::{EIO, ENOENT};
 use io_ports::{NoMemory, Text};
 use mount_model::Config;
 use mount_spec::{Found, Probed};

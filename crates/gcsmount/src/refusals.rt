@@ -4,8 +4,8 @@ ghost use Rattle.fuse_replies.specs.Errno.{enosys};
 ghost use Rattle.mount_spec.specs.PlainNames as plain_names;
 ghost use Rattle.mount_spec.specs.Rules as rules;
 
-use fuse_replies::errno::{EINVAL, ENOSYS};
 use crate::names::is_served;
+use fuse_replies::errno::{EINVAL, ENOSYS};
 use fuse_requests::Request;
 use io_ports::Bytes;
 

@@ -10,7 +10,6 @@ ghost use Rattle.mount_spec.specs.Rules as rules;
 ghost use Rattle.mount_spec.specs.Rules.{early};
 
 use crate::create::create;
-use fuse_replies::errno::{ENOMEM, EPROTO};
 use crate::init;
 use crate::lookup::look_up;
 use crate::names::plain_text;
@@ -19,6 +18,7 @@ use crate::refusals::{is_init, is_silent, refusal};
 use crate::store::Store;
 use bucket_plain::Plain;
 use fuse_replies::Reply;
+use fuse_replies::errno::{ENOMEM, EPROTO};
 use fuse_requests::Request;
 use handle_table::HandleTable;
 use io_ports::{NoMemory, Text};

@@ -27,25 +27,25 @@ returns-then-errno-gt-LAST_ERRNO-clause-malformed c = λ malformed unique reply 
 pub returns-then-errno-eq0-clause-ok : goal.returns-then-errno-eq0-clause-ok
 returns-then-errno-eq0-clause-ok c =
     let is = c.in-Some.ensures.3 ∙ ap (λ (errno : ℕ). out_head (16 + length c.in-Some.body.now) errno c.in-Some.unique ++ c.in-Some.body.now) c.if-errno-eq0.true in
-    frame_of_body c.args.kind c.in-Some.unique c.in-Some.body.now c.args.bytes.now (without_spare c.in_ok-reply.reply) c.in-Some.ensures.1 is c.in_ok-reply.ensures.found
+    frame_of_body c.args.kind c.in-Some.unique c.in-Some.body.now c.args.bytes.now (without_spare c.in_ok-reply.reply) c.in-Some.ensures.1 is c.in_ok-reply.ensures.read.found
 
 pub returns-then-errno-eq0-clause-again : goal.returns-then-errno-eq0-clause-again
 returns-then-errno-eq0-clause-again c = λ unique reply frame.
     let is = c.in-Some.ensures.3 ∙ ap (λ (errno : ℕ). out_head (16 + length c.in-Some.body.now) errno c.in-Some.unique ++ c.in-Some.body.now) c.if-errno-eq0.true in
     let same = same_head c.args.kind c.in-Some.errno c.in-Some.unique unique c.in-Some.body.now c.args.bytes.now reply c.in-Some.ensures.0 c.in-Some.ensures.1 c.in-Some.ensures.3 frame in
-    (same.unique_is, c.in_ok-reply.ensures.again reply (body_of_frame c.args.kind c.in-Some.unique unique c.in-Some.body.now c.args.bytes.now reply c.in-Some.ensures.1 is frame))
+    (same.unique_is, c.in_ok-reply.ensures.read.again reply (body_of_frame c.args.kind c.in-Some.unique unique c.in-Some.body.now c.args.bytes.now reply c.in-Some.ensures.1 is frame))
 
 pub returns-in_err-reply-clause-again : goal.returns-in_err-reply-clause-again
 returns-in_err-reply-clause-again c =
     let is = c.in-Some.ensures.3 ∙ ap (λ (errno : ℕ). out_head (16 + length c.in-Some.body.now) errno c.in-Some.unique ++ c.in-Some.body.now) c.if-errno-eq0.true in
     let p = err_from_is_err_and c.from_residual.result c.from_residual.ensures.1 in
-    rw (p.1, p.2) (λ unique reply frame. c.in_err-reply.ensures.again reply (body_of_frame c.args.kind c.in-Some.unique unique c.in-Some.body.now c.args.bytes.now reply c.in-Some.ensures.1 is frame))
+    rw (p.1, p.2) (λ unique reply frame. c.in_err-reply.ensures.read.again reply (body_of_frame c.args.kind c.in-Some.unique unique c.in-Some.body.now c.args.bytes.now reply c.in-Some.ensures.1 is frame))
 
 pub returns-in_err-reply-clause-malformed : goal.returns-in_err-reply-clause-malformed
 returns-in_err-reply-clause-malformed c = λ malformed unique reply frame.
     let is = c.in-Some.ensures.3 ∙ ap (λ (errno : ℕ). out_head (16 + length c.in-Some.body.now) errno c.in-Some.unique ++ c.in-Some.body.now) c.if-errno-eq0.true in
     let p = err_from_is_err_and c.from_residual.result c.from_residual.ensures.1 in
-    let memory = c.in_err-reply.ensures.again reply (body_of_frame c.args.kind c.in-Some.unique unique c.in-Some.body.now c.args.bytes.now reply c.in-Some.ensures.1 is frame) in
+    let memory = c.in_err-reply.ensures.read.again reply (body_of_frame c.args.kind c.in-Some.unique unique c.in-Some.body.now c.args.bytes.now reply c.in-Some.ensures.1 is frame) in
     cc (malformed, p.1, p.2, memory)
 
 pub returns-then-not-is_empty-clause-again : goal.returns-then-not-is_empty-clause-again

@@ -15,8 +15,8 @@ returns-then-len-lt16 c = λ errno unique body errno_fits unique_fits fits is.
 
 pub returns-in_err-body : goal.returns-in_err-body
 returns-in_err-body c =
-    let head : OutHead = c.out_head_of.result in
+    let head : OutHead = c.out_head_of-errno.result in
     rw c.from_residual.ensures (λ errno unique body errno_fits unique_fits fits is.
     strip_prefix_is Decides-eqb c.args.bytes.now c.write_out_head.new.out None c.in_err-body.ensures.cases body
     (head_again c.in-Ok.len errno unique head.errno head.unique body c.args.bytes.now c.write_out_head.new.out errno_fits unique_fits is c.in-Ok.ensures.1
-    (ap (λ (h : OutHead). h.errno) c.out_head_of.ensures) (ap (λ (h : OutHead). h.unique) c.out_head_of.ensures) c.write_out_head.ensures))
+    (ap (λ (h : OutHead). h.errno) c.out_head_of-errno.ensures) (ap (λ (h : OutHead). h.unique) c.out_head_of-errno.ensures) c.write_out_head.ensures))
