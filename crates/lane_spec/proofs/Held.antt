@@ -1,5 +1,5 @@
 -- Which numbers `without` and `together` have.
-use Rattle.std.proofs.Common.{◌≡◌, ℕ, Bool, true, false, not, ◌&&◌, ◌||◌, ◌==◌, List, [], ◌∷◌, filter, refl, ap, ◌∙◌, eqb-true}
+use Rattle.std.proofs.Common.{◌≡◌, ℕ, Bool, true, false, not, ◌&&◌, ◌||◌, ◌==◌, List, [], ◌∷◌, filter, refl, sym, ap, ◌∙◌, eqb-true}
 use Rattle.std.proofs.lemmas.List.Folds.{list_any-append}
 use Rattle.std.proofs.lemmas.Map.Views.{any-filter_same}
 use Rattle.std.proofs.lemmas.Bool.Decides.{nat_tests}
@@ -57,7 +57,7 @@ has-together (AllBut ms) (AllBut ns) n = ap not (lists-filter (λ k. lists ns k)
 one_of : (b t : Bool) → (t ≡ true → b ≡ true) → (b && not t) || t ≡ b
 one_of true true held = refl
 one_of true false held = refl
-one_of false true held = held refl
+one_of false true held = sym (held refl)
 one_of false false held = refl
 
 only-one : (n k : ℕ) → has (Only (n ∷ [])) k ≡ (k == n)

@@ -7,6 +7,7 @@ pub mod Laws
 pub mod Making
 pub mod Mount
 pub mod OneThread
+pub mod Overlap
 pub mod Plans
 pub mod Requests
 pub mod Rules

@@ -1,8 +1,9 @@
 -- How what a mount keeps, and a mount itself, are told apart.
-use Rattle.std.specs.Prelude.{ℕ, List, refl}
-use Rattle.std.specs.Coded.{Coded, code_by, coded×, coded_ℕ, coded_list}
+use Rattle.std.specs.Prelude.{ℕ, Bool, List, refl}
+use Rattle.std.specs.Coded.{Coded, code_by, coded×, coded_ℕ, coded_bool, coded_list}
 use Rattle.bucket_api.specs.Metadata.{Metadata}
 use Rattle.bucket_api.specs.declared.objects.Pair.{Pair}
+use Rattle.mount_model.specs.declared.config.Config.{Config}
 use Rattle.mount_rules.specs.Mount.{File, Kept}
 
 abbrev text_code : Coded (List ℕ)
@@ -25,3 +26,21 @@ kept_code = code_by (Metadata × ℕ) (coded× metadata_code coded_ℕ) (λ k. (
 
 abbrev pub file_code : Coded File
 file_code = code_by (ℕ × (ℕ × Kept)) (coded× coded_ℕ (coded× coded_ℕ kept_code)) (λ f. (f.source, (f.size, f.kept))) (λ p. record { source = p.0; size = p.1.0; kept = p.1.1 }) (λ _. refl)
+
+abbrev pub config_code : Coded Config
+config_code =
+    code_by
+    (Bool × (ℕ × (ℕ × (ℕ × (ℕ × (ℕ × (ℕ × ℕ)))))))
+    (coded× coded_bool (coded× coded_ℕ (coded× coded_ℕ (coded× coded_ℕ (coded× coded_ℕ (coded× coded_ℕ (coded× coded_ℕ coded_ℕ)))))))
+    (λ c. (c.implicit_dirs, (c.stat_lifetime, (c.type_lifetime, (c.record_capacity, (c.staging_blocks, (c.cache_blocks, (c.list_page, c.start))))))))
+    (λ p. record {
+      implicit_dirs = p.0;
+      stat_lifetime = p.1.0;
+      type_lifetime = p.1.1.0;
+      record_capacity = p.1.1.1.0;
+      staging_blocks = p.1.1.1.1.0;
+      cache_blocks = p.1.1.1.1.1.0;
+      list_page = p.1.1.1.1.1.1.0;
+      start = p.1.1.1.1.1.1.1;
+    })
+    (λ _. refl)

@@ -2,3 +2,4 @@
 pub mod Codes
 pub mod Mounts
 pub mod Spares
+pub mod Tables

@@ -2,7 +2,7 @@
 ghost use Rattle.std.specs.Prelude.{◌≡◌, drop, IfOk};
 ghost use Rattle.mount_rules.specs.Requests.Readdir as spec;
 
-use fuse_replies::{Dirent, dirent_length};
+use fuse_replies::{Dirent, dirent_len};
 use io_ports::{NoMemory, Row};
 use object_names::{DirItem, NodeKind};
 use std::alloc::Global;
@@ -21,17 +21,16 @@ pub(crate) fn entries_from(
     if first >= items.len() as u64 {
         return Ok(Row::from_vec(entries));
     }
-    let mut room = size;
+    let mut room = size as u64;
     let mut position = first;
     for item in &items[first as usize..] {
-        position += 1;
-        let entry = entry_at(alloc, item, position)?;
-        let length = dirent_length(&entry);
+        let length = dirent_len(item.shown.as_str());
         if length > room {
             break;
         }
         room -= length;
-        entries.push(entry)?;
+        position += 1;
+        entries.push(entry_at(alloc, item, position)?)?;
     }
     Ok(Row::from_vec(entries))
 }

@@ -8,11 +8,14 @@ mod entries;
 mod file;
 mod finish;
 mod init;
+mod lookup;
 mod mount;
 mod path;
+mod prepare;
 mod refusals;
 mod showing;
 mod spare;
+mod tables;
 
 pub use file::{File, Kept};
 pub use mount::Mount;

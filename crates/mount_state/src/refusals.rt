@@ -1,16 +1,17 @@
 //! Why a request is refused before it asks anything.
-ghost use Rattle.std.specs.Prelude.{◌≡◌, ℕ, List, Option, None, nat_lt, nat_le, ◌==◌, ◌||◌};
+ghost use Rattle.std.specs.Prelude.{◌≡◌, Some, None, nat_le, if◌then◌else◌};
+ghost use Rattle.fuse_replies.specs.Errno.{einval, enotdir, estale};
 ghost use Rattle.fuse_requests.specs.Grammar.{without_spare};
 ghost use Rattle.inode_spec.specs.Inodes as inodes;
 ghost use Rattle.mount_rules.specs.Dispatch as rules;
 ghost use Rattle.mount_rules.specs.Guards as guards;
 ghost use Rattle.mount_rules.specs.Requests.Readdir as readdir;
 ghost use Rattle.mount_rules.specs.View.{Sight, sight_at};
+ghost use Rattle.mount_state.specs.Tables.{mount_of};
 ghost use Rattle.std.specs.FinMap as fin;
-ghost use Rattle.std.specs.Option.{option_copied, option_map_or};
 
 use crate::file::File;
-use crate::mount::Mount;
+use crate::tables::Tables;
 use fuse_replies::errno::{EBADF, EINVAL, ENAMETOOLONG, ENOSYS, ENOTDIR, EPROTO, ESTALE};
 use fuse_requests::Request;
 use fuse_requests::opcode;
@@ -26,12 +27,12 @@ const LONGEST_READ: u32 = 1_048_576;
 /// The most bytes of a path.
 const LONGEST_PATH: usize = 1023;
 
-impl Mount {
+impl Tables {
     /// The error with which a request that gets a reply is refused before it asks anything of the bucket: first that no
     /// version is agreed on (EPROTO), then that it isn't served (ENOSYS) or could not be read (EINVAL), then what its own
     /// rules refuse. None where nothing does, and for requests that never get a reply.
-    pub fn early(&self, request: &Request) -> Option<u32>
-        ensures { result ≡ rules.early self.now.mount (without_spare request.now) }
+    pub(crate) fn early(&self, request: &Request) -> Option<u32>
+        ensures { result ≡ rules.early (mount_of self.now) (without_spare request.now) }
     {
         if !self.negotiated && !is_silent(request) && !is_init(request) {
             return Some(EPROTO);
@@ -41,7 +42,7 @@ impl Mount {
 
     /// The error with which a request's own rules refuse it.
     fn refusal(&self, request: &Request) -> Option<u32>
-        ensures { result ≡ (rules.rules_of (without_spare request.now)).refusal (rules.view_in self.now.mount (without_spare request.now)) }
+        ensures { result ≡ (rules.rules_of (without_spare request.now)).refusal (rules.view_in (mount_of self.now) (without_spare request.now)) }
     {
         match request {
             Request::Lookup { node, name } => self.child_refusal(*node, strip_suffix(name.as_slice()).0),
@@ -60,9 +61,9 @@ impl Mount {
 
     /// The error of a node that is no live directory.
     fn directory_refusal(&self, node: u64) -> Option<u32>
-        ensures { result ≡ guards.in_directory (sight_at self.now.mount.table node) (λ directory. None) }
+        ensures { result ≡ guards.in_directory (sight_at self.now.nodes.table node) (λ directory. None) }
     {
-        match self.nodes().get(node) {
+        match self.nodes.get(node) {
             Some(inode) => kind_refusal(node, inode),
             None => Some(ESTALE),
         }
@@ -70,9 +71,9 @@ impl Mount {
 
     /// The error of a name in a directory: that of the directory, or that the name is no component or its path too long.
     fn child_refusal(&self, node: u64, part: &[u8]) -> Option<u32>
-        ensures { result ≡ guards.in_directory (sight_at self.now.mount.table node) (guards.part_refusal part.now) }
+        ensures { result ≡ guards.in_directory (sight_at self.now.nodes.table node) (guards.part_refusal part.now) }
     {
-        let Some(inode) = self.nodes().get(node) else {
+        let Some(inode) = self.nodes.get(node) else {
             return Some(ESTALE);
         };
         match kind_refusal(node, inode) {
@@ -83,9 +84,9 @@ impl Mount {
 
     /// The error of a handle that is no open directory on this node.
     fn handle_refusal(&self, node: u64, fh: u64) -> Option<u32>
-        ensures { result ≡ guards.on_open_directory node (fin.get self.now.mount.handles fh) (λ entries. None) }
+        ensures { result ≡ guards.on_open_directory node (fin.get self.now.handles.handles fh) (λ entries. None) }
     {
-        match self.handles().get(fh) {
+        match self.handles.get(fh) {
             Some(handle) if handle.node == node && handle.items.is_some() => None,
             _ => Some(EBADF),
         }
@@ -93,7 +94,7 @@ impl Mount {
 
     /// The error of a READDIR: that of its handle, or that it asks for too many bytes.
     fn readdir_refusal(&self, node: u64, fh: u64, size: u32) -> Option<u32>
-        ensures { result ≡ guards.on_open_directory node (fin.get self.now.mount.handles fh) (λ entries. if nat_le size readdir.longest_read then None else Some einval) }
+        ensures { result ≡ guards.on_open_directory node (fin.get self.now.handles.handles fh) (λ entries. if nat_le size readdir.longest_read then None else Some einval) }
     {
         match self.handle_refusal(node, fh) {
             Some(errno) => Some(errno),

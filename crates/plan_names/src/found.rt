@@ -1,6 +1,6 @@
 ghost use Rattle.std.specs.Prelude.{◌≡◌};
 ghost use Rattle.mount_rules.specs.Making as making;
-ghost use Rattle.mount_rules.specs.Plans.{answers_of};
+ghost use Rattle.mount_rules.specs.Plans.{answers_of, last_moment};
 ghost use Rattle.mount_rules.specs.Requests.Lookup as lookup;
 ghost use Rattle.plan_names.specs.Outcomes.{as_found, as_made};
 ghost use Rattle.plan_names.specs.Telling.{told};
@@ -89,5 +89,15 @@ fn made_by(answer: Answer) -> Made
         Answer::Meta(meta) => Made::New(meta),
         Answer::Precondition { .. } => Made::Exists,
         _ => Made::Fault,
+    }
+}
+
+/// The moment of the last operation that was made, 0 where none was.
+pub fn last_moment(seen: &Row<Observation>) -> u64
+    ensures { result ≡ last_moment seen.now.items }
+{
+    match seen.as_slice().last() {
+        Some(observed) => observed.moment,
+        None => 0,
     }
 }

@@ -1,11 +1,11 @@
 -- READDIR: entries of an open directory, from a position on, as many whole ones as fit (fuse.h: `struct fuse_dirent`). A
 -- position is an entry's place among the handle's entries, from 0, and an entry's `off` is the position behind it.
-use Rattle.std.specs.Prelude.{ℕ, ◌+◌, ◌-◌, [], ◌∷◌, drop, length, option_and_then, List, Option, Some, None, nat_le, if◌then◌else◌}
+use Rattle.std.specs.Prelude.{ℕ, ◌+◌, ◌-◌, [], ◌∷◌, drop, option_and_then, List, Option, Some, None, nat_le, if◌then◌else◌}
 use Rattle.std.specs.Option.{option_map_or}
 use Rattle.fuse_replies.specs.declared.reply.Dirent.{Dirent}
 use Rattle.fuse_replies.specs.declared.reply.Reply.{Reply}
 use Rattle.fuse_replies.specs.declared.reply.Reply.TheVariants.{Dirents}
-use Rattle.fuse_replies.specs.Layouts.{dirent_text}
+use Rattle.fuse_replies.specs.Layouts.{dirent_len}
 use Rattle.object_names.specs.declared.shown.DirItem.{DirItem}
 use Rattle.object_names.specs.declared.shown.NodeKind.{NodeKind}
 use Rattle.object_names.specs.declared.shown.NodeKind.TheVariants.{Dir, File, Symlink}
@@ -37,8 +37,8 @@ dirent_at position entry = record { off = position + 1; kind = type_of entry.kin
 abbrev pub fitting : ℕ → ℕ → List DirItem → List Dirent
 fitting position room [] = []
 fitting position room (entry ∷ more) =
-    if nat_le (length (dirent_text (dirent_at position entry))) room
-    then dirent_at position entry ∷ fitting (position + 1) (room - length (dirent_text (dirent_at position entry))) more
+    if nat_le (dirent_len entry.shown) room
+    then dirent_at position entry ∷ fitting (position + 1) (room - dirent_len entry.shown) more
     else []
 
 -- the entries of a handle; none where it is not an open directory
