@@ -4,6 +4,7 @@ pub mod Counting
 pub mod Guarding
 pub mod Keeping
 pub mod Mounts
+pub mod Overlaps
 pub mod Quiet
 pub mod RequestLaws
 pub mod Requests

@@ -28,6 +28,7 @@ IsSound-quiet rules quiet = record {
   leaves = λ config second mount seen goes. subst (Keeps (rules.claims (view_of mount rules.looks)) mount) (sym (quiet.stays _ mount seen)) (Keeps-same _ mount);
   sees = λ config second mount goes asks. absurd (asks (quiet.plan_done (taken_by rules config second mount) []));
   covers = λ taken answers op allows. absurd (subst (λ (step : Step). Allows step op) (quiet.plan_done taken answers) allows);
+  agrees = λ taken mount seen agreed. ap (λ (m : MountModel). m.negotiated) (quiet.stays taken mount seen) ∙ agreed;
   refuses = quiet.refuses;
   answers = quiet.answers;
   counts = λ config second mount seen number other goes.

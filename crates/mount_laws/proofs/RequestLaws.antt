@@ -104,6 +104,15 @@ module _ (config : Config) (second : ℕ) (mount : MountModel) (request : Reques
       by true e = (sound request).leaves config second mount seen (goes mount request is e)
       by false e = Keeps-same [] mount
 
+-- an agreement on a version stays
+pub agreement_stays : (config : Config) (second : ℕ) (mount : MountModel) (request : Request) (seen : List Observed) → mount.negotiated ≡ true
+    → (mount_after config second mount request seen).negotiated ≡ true
+agreement_stays config second mount request seen agreed = by (goes_on mount request)
+  where
+    by : (on : Bool) → (if on then (rules_of request).after (taken_at config second mount request) mount seen else mount).negotiated ≡ true
+    by true = (sound request).agrees (taken_at config second mount request) mount seen agreed
+    by false = agreed
+
 pub stays_mount : StaysMount
 stays_mount config second mount request seen is = (later config second mount request seen is).is
 

@@ -1,6 +1,6 @@
 -- What is proved of the rules of each request, where nothing refuses it: a predicate on the rules, which each request's
 -- own file shows, and of which all laws over requests are made.
-use Rattle.std.specs.Prelude.{◌≡◌, ◌≢◌, ℕ, ◌+◌, ◌-◌, List, Option, Some, None, [], All}
+use Rattle.std.specs.Prelude.{◌≡◌, ◌≢◌, ℕ, ◌+◌, ◌-◌, List, true, Option, Some, None, [], All}
 use Rattle.bucket_api.specs.declared.answers.Answer.{Answer}
 use Rattle.bucket_api.specs.Operation.{Operation}
 use Rattle.fuse_replies.specs.declared.reply.Reply.TheVariants.{Error}
@@ -33,6 +33,7 @@ pub record IsSound (rules : Rules) (back : ℕ → ℕ) : Type 0 where
   pub sees : (config : Config) (second : ℕ) (mount : MountModel) → GoesOn rules mount → rules.plan (taken_by rules config second mount) [] ≢ done
       → LooksClaimed (rules.claims (view_of mount rules.looks)) mount rules.looks
   pub covers : (taken : Taken) (answers : List Answer) (op : Operation) → Allows (rules.plan taken answers) op → IsCovered (rules.claims taken.view) op
+  pub agrees : (taken : Taken) (mount : MountModel) (seen : List Observed) → mount.negotiated ≡ true → (rules.after taken mount seen).negotiated ≡ true
   pub refuses : (view : View) → rules.refusal view ≢ Some enomem
   pub answers : (taken : Taken) (mount : MountModel) (seen : List Observed) → rules.reply taken mount seen ≢ Error enomem
   pub counts : (config : Config) (second : ℕ) (mount : MountModel) (seen : List Observed) (number : ℕ) → number ≢ 1 → GoesOn rules mount

@@ -1,5 +1,6 @@
 //! The laws, as clauses of two functions that do nothing.
 ghost use Rattle.mount_rules.specs.Laws as laws;
+ghost use Rattle.mount_rules.specs.Overlap.{OpenCallsSee};
 
 /// What holds of every request at every mount: a mount stays one and gives no number again; what a call leaves to calls
 /// whose claims don't conflict with its own; that a call with claims of its own sees the same meanwhile; that its claims
@@ -12,6 +13,12 @@ pub fn request_laws()
     ensures memory { laws.NeverOutOfMemory }
 {
 }
+
+/// What holds while calls are under way beside one another, taken and done in any order, where no two of them have
+/// conflicting claims: each sees what it saw at its take.
+pub fn overlap_laws()
+    ensures { OpenCallsSee }
+{}
 
 /// What holds along any run on one thread: a node is live while the kernel holds look-ups of it, numbers are given once,
 /// and the calls answered ENOMEM are those that stopped short.

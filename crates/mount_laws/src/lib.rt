@@ -4,4 +4,4 @@
 
 mod laws;
 
-pub use laws::{request_laws, run_laws};
+pub use laws::{overlap_laws, request_laws, run_laws};

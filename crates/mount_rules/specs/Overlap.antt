@@ -1,6 +1,6 @@
 -- Calls under way beside one another on one mount: each is taken, asks its bucket, and is done; calls that ask nothing are
 -- taken and done in one turn; and the clock ticks. The law of claims along all of that.
-use Rattle.std.specs.Prelude.{◌≡◌, ◌≢◌, ℕ, List, [], ◌∷◌, ◌++◌, slice_get, remove, true, Option, Some, None}
+use Rattle.std.specs.Prelude.{◌≡◌, ◌≢◌, ℕ, List, [], ◌∷◌, ◌++◌, slice_get, zero, suc, true, Option, Some, None}
 use Rattle.std.specs.List.{AllByRecursion}
 use Rattle.claim_spec.specs.Conflicts.{AreApart}
 use Rattle.claim_spec.specs.declared.claim.Claim.{Claim}
@@ -9,7 +9,6 @@ use Rattle.mount_model.specs.Observing.{Observed}
 use Rattle.mount_model.specs.declared.config.Config.{Config}
 use Rattle.mount_rules.specs.Dispatch.{claims, goes_on, mount_after, plan, view_in}
 use Rattle.mount_rules.specs.Mount.{MountModel, first_mount}
-use Rattle.mount_rules.specs.Plans.{Step}
 use Rattle.mount_rules.specs.Plans as plans
 use Rattle.mount_rules.specs.View.{View}
 
@@ -34,6 +33,12 @@ pub data Turn : Type 0 where
   at_once : (second : ℕ) (request : Request) → Turn
   tick : (seconds : ℕ) → Turn
 
+-- the calls but the one at a place
+abbrev pub others_than : ℕ → List OpenCall → List OpenCall
+others_than place [] = []
+others_than zero (o ∷ more) = more
+others_than (suc place) (o ∷ more) = o ∷ others_than place more
+
 abbrev pub opened_at : ℕ → MountModel → Request → OpenCall
 opened_at second mount request = record { request = request; second = second; view = view_in mount request; claimed = claims mount request }
 
@@ -53,7 +58,7 @@ MayHappen config shared (tick seconds) = Unit {0}
 abbrev pub after_done : Config → Shared → ℕ → List Observed → Option OpenCall → Shared
 after_done config shared place seen None = shared
 after_done config shared place seen (Some o) =
-    record { mount = mount_after config o.second shared.mount o.request seen; open_calls = remove shared.open_calls place }
+    record { mount = mount_after config o.second shared.mount o.request seen; open_calls = others_than place shared.open_calls }
 
 abbrev pub after_turn : Config → Shared → Turn → Shared
 after_turn config shared (take second request) = record shared { open_calls = opened_at second shared.mount request ∷ shared.open_calls }

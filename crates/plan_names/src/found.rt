@@ -5,7 +5,7 @@ ghost use Rattle.mount_rules.specs.Requests.Lookup as lookup;
 ghost use Rattle.plan_names.specs.Outcomes.{as_found, as_made};
 ghost use Rattle.plan_names.specs.Telling.{told};
 
-use crate::lookup::{Probed, probed};
+use crate::lookup::{Probed, probe_outcome};
 use bucket_api::{Answer, Meta};
 use io_ports::Row;
 use mount_model::Observation;
@@ -35,7 +35,7 @@ pub enum Made {
 }
 
 /// What a look-up found that observed this. It takes no memory.
-pub fn found(seen: Row<Observation>) -> Found
+pub fn outcome_of_lookup(seen: Row<Observation>) -> Found
     ensures { as_found result ≡ lookup.found (answers_of seen.items) }
 {
     let mut seen = seen.into_vec();
@@ -43,7 +43,7 @@ pub fn found(seen: Row<Observation>) -> Found
         return found_at(seen.swap_remove(1).answer);
     }
     match seen.pop() {
-        Some(probe) => found_by(probed(&probe.answer)),
+        Some(probe) => found_by(probe_outcome(&probe.answer)),
         None => Found::Fault,
     }
 }
@@ -71,7 +71,7 @@ fn found_at(answer: Answer) -> Found
 }
 
 /// What came of making an object that observed this. It takes no memory.
-pub fn made(seen: Row<Observation>) -> Made
+pub fn outcome_of_insert(seen: Row<Observation>) -> Made
     ensures { as_made result ≡ making.made (answers_of seen.items) }
 {
     let mut seen = seen.into_vec();

@@ -9,4 +9,4 @@ mod lookup;
 mod making;
 
 pub use errand::{NameErrand, errno, next_op};
-pub use found::{Found, Made, found, last_moment, made};
+pub use found::{Found, Made, last_moment, outcome_of_insert, outcome_of_lookup};

@@ -40,7 +40,7 @@ pub(crate) fn next_op(
 {
     match answers {
         [] => probe(alloc, path, implicit),
-        [answer] => after_probe(alloc, path, suffix, probed(answer)),
+        [answer] => after_probe(alloc, path, suffix, probe_outcome(answer)),
         _ => Ok(Next::Finish),
     }
 }
@@ -88,7 +88,7 @@ fn stat(alloc: Global, path: &Text) -> Result<Next, NoMemory>
 }
 
 /// What an answer to a probe tells.
-pub(crate) fn probed(answer: &Answer) -> Probed
+pub(crate) fn probe_outcome(answer: &Answer) -> Probed
     ensures { told result ≡ spec.probed answer.now }
 {
     match answer {
@@ -105,7 +105,7 @@ pub(crate) fn errno(answers: &[Answer]) -> u32
 {
     match answers {
         [] => EIO,
-        [answer] => probe_errno(probed(answer)),
+        [answer] => probe_errno(probe_outcome(answer)),
         [_, answer, ..] => stat_errno(answer),
     }
 }

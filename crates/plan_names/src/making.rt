@@ -1,4 +1,4 @@
-ghost use Rattle.std.specs.Prelude.{◌≡◌, ◌≢◌, ◌×◌, IfOk, OnErr};
+ghost use Rattle.std.specs.Prelude.{◌≡◌, ◌≢◌, IfOk, OnErr};
 ghost use Rattle.bucket_api.specs.Metadata.{KeysRise};
 ghost use Rattle.bucket_api.specs.Names.{IsObjectName};
 ghost use Rattle.mount_model.specs.Observing.{next_step};

@@ -63,6 +63,11 @@ answers config mount path moment (new meta) e = cc
 answers config mount path moment exists e = let same : eexist ≡ enomem = cc in absurd (omega (arith, same))
 answers config mount path moment fault e = let same : eio ≡ enomem = cc in absurd (omega (arith, same))
 
+agrees : (mount : MountModel) (path : List ℕ) (moment : ℕ) → mount.negotiated ≡ true → (came : Made) → (create.mount_after mount path moment came).negotiated ≡ true
+agrees mount path moment agreed (new meta) = agreed
+agrees mount path moment agreed exists = agreed
+agrees mount path moment agreed fault = agreed
+
 -- the one operation is the insert of the path
 covers : (path : List ℕ) (second : ℕ) (answers : List Answer) (node : ℕ) (op : Operation) → Allows (making.plan path [] second answers) op
     → IsCovered (shares_node node ∷ owns_name path ∷ []) op
@@ -75,6 +80,7 @@ create_sound node name = record {
   leaves = λ config second mount seen goes. leaves mount goes.is _ _ _ (inr (inl refl)) (making.made (answers_of seen));
   sees = λ config second mount goes asks. let has = HasPath-none mount node name goes.is goes.free in LooksClaimed-node _ mount node has.sight has.seen (inl refl);
   covers = λ taken answers op allows. covers (create.path_of name taken.view) taken.second answers node op allows;
+  agrees = λ taken mount seen agreed. agrees mount _ _ agreed (making.made (answers_of seen));
   refuses = λ view. in_directory-memory view.node (part_refusal name) (part_refusal-memory name);
   answers = λ taken mount seen. answers taken.config mount (create.path_of name taken.view) _ (making.made (answers_of seen));
   counts = λ config second mount seen number other goes. counts mount goes.is _ _ config number (making.made (answers_of seen));

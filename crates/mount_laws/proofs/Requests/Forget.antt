@@ -82,6 +82,7 @@ forget_sound node count = record {
   leaves = λ config second mount seen goes. Keeps-table _ mount _ (leaves mount goes.is node count (forget.is_held mount.handles node));
   sees = λ config second mount goes asks. absurd (asks refl);
   covers = λ taken answers op allows. absurd allows;
+  agrees = λ taken mount seen agreed. agreed;
   refuses = λ view. no_error;
   answers = λ taken mount seen. silent_answered;
   counts = λ config second mount seen number other goes. counts_forgotten mount.table number node count (forget.is_held mount.handles node) other;

@@ -26,6 +26,10 @@ module _ (major minor readahead flags : ℕ) where
   counts mount number true = refl
   counts mount number false = refl
 
+  agrees : (mount : MountModel) → mount.negotiated ≡ true → (taken : Bool) → (if taken then record mount { negotiated = true } else mount).negotiated ≡ true
+  agrees mount agreed true = refl
+  agrees mount agreed false = agreed
+
   no_error : None ≡ Some enomem → ⊥
   no_error e = cc
 
@@ -45,6 +49,7 @@ module _ (major minor readahead flags : ℕ) where
     leaves = λ config second mount seen goes. leaves mount (init.is_taken major minor);
     sees = λ config second mount goes asks. absurd (asks refl);
     covers = λ taken answers op allows. absurd allows;
+    agrees = λ taken mount seen agreed. agrees mount agreed (init.is_taken major minor);
     refuses = λ view. no_error;
     answers = λ taken mount seen. answers (init.is_newer major) (init.is_taken major minor);
     counts = λ config second mount seen number other goes.

@@ -89,6 +89,7 @@ lookup_sound node name = record {
       LooksClaimed-node _ mount node has.sight has.seen (inl refl);
   covers = λ taken answers op allows.
       asks_path taken.config.implicit_dirs (lookup.path_of name taken.view) (has_suffix name) answers (lookup.claims node name taken.view) op (inr (inr (inl refl))) (inr (inl refl)) allows;
+  agrees = λ taken mount seen agreed. agreed;
   refuses = λ view. in_directory-memory view.node (part_refusal (bare_name name)) (part_refusal-memory (bare_name name));
   answers = λ taken mount seen. answers taken.config mount.table (lookup.path_of name taken.view) _ (lookup.found (answers_of seen));
   counts = λ config second mount seen number other goes.

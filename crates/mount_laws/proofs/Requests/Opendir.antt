@@ -57,6 +57,10 @@ module _ (mount : MountModel) (is : IsMount mount) (node : ℕ) where
   counts number None = omega arith
   counts number (Some items) = omega arith
 
+agrees : (node : ℕ) (mount : MountModel) → mount.negotiated ≡ true → (items : Option (List DirItem)) → (opendir.mount_after node mount items).negotiated ≡ true
+agrees node mount agreed None = agreed
+agrees node mount agreed (Some items) = agreed
+
 reply_answers : (mount : MountModel) (items : Option (List DirItem)) → opendir.reply_to mount items ≡ Error enomem → ⊥
 reply_answers mount None e = let same : eio ≡ enomem = cc in absurd (omega (arith, same))
 reply_answers mount (Some items) e = cc
@@ -67,6 +71,7 @@ opendir_sound node = record {
   leaves = λ config second mount seen goes. leaves mount goes.is node _ _;
   sees = λ config second mount goes asks. let d = in_directory-none _ (λ (sight : Sight). None) goes.free in LooksClaimed-node _ mount node d.sight d.is (inl refl);
   covers = λ taken told op allows. covers (opendir.prefix_of taken.view) taken.config.list_page None told (shares_node node ∷ []) op allows;
+  agrees = λ taken mount seen agreed. agrees node mount agreed _;
   refuses = λ view. in_directory-memory view.node (λ sight. None) (λ sight. no_error);
   answers = λ taken mount seen. reply_answers mount _;
   counts = λ config second mount seen number other goes. counts mount goes.is node number _;

@@ -25,6 +25,7 @@ releasedir_sound node fh = record {
       Keeps-released _ mount fh open_.handle open_.is (subst (λ n. IsOwned (owns_node node ∷ []) (key.Node n)) (sym open_.node_is) (inl (refl, refl)));
   sees = λ config second mount goes asks. absurd (asks refl);
   covers = λ taken told op allows. absurd allows;
+  agrees = λ taken mount seen agreed. agreed;
   refuses = λ view. on_open_directory-memory node view.handle _ (λ items. no_error);
   answers = λ taken mount seen. answered;
   counts = λ config second mount seen number other goes. omega arith;
