@@ -1,4 +1,5 @@
 -- The laws of the requests and of runs, for the crates above.
+pub mod Asking
 pub mod Children
 pub mod Counting
 pub mod Guarding

@@ -1,7 +1,8 @@
 -- Every request's rules are sound, one line each; and the laws over all requests that follow.
-use Rattle.std.proofs.Common.{◌≡◌, ◌≢◌, ◌+◌, ◌-◌, ℕ, Bool, true, false, List, [], Option, Some, None, refl, sym, ap, subst, ◌∙◌, arith}
+use Rattle.std.proofs.Common.{◌≡◌, ◌≢◌, ◌+◌, ◌-◌, ℕ, Bool, true, false, List, [], Option, Some, None, refl, sym, ap, subst, ◌∙◌, arith, ◌≤◌, length}
 use Rattle.std.proofs.lemmas.Bool.{false≢true}
 use Rattle.std.specs.Prelude.{if◌then◌else◌, not, ◌&&◌, ◌==◌, is_some}
+use Rattle.std.specs.List.{AllByRecursion}
 use Rattle.std.specs.Option.{option_map_or}
 use Rattle.claim_spec.specs.Conflicts.{AreApart}
 use Rattle.fuse_replies.specs.declared.reply.Reply.{Reply}
@@ -12,12 +13,13 @@ use Rattle.inode_spec.specs.Inodes.{lookups_of}
 use Rattle.mount_model.specs.declared.config.Config.{Config}
 use Rattle.mount_rules.specs.Dispatch.{early, goes_on, is_among, is_idle, is_init, is_silent, mount_after, plan, claims, reply_to, rules_of, served_opcodes, silent_opcodes, taken_at, unread, view_in, wants}
 use Rattle.fuse_replies.specs.Errno.{einval, enomem, enosys, eproto}
-use Rattle.mount_rules.specs.Laws.{ClaimsCover, ClaimsProtect, GivesLater, IsCovered, Keeps, LeavesOthers, NeverOutOfMemory, StaysMount, given, given_back}
+use Rattle.mount_rules.specs.Laws.{AsksAtMost, ClaimsCover, ClaimsProtect, GivesLater, HarmlessWhileAsking, IsCovered, Keeps, LeavesOthers, NeverOutOfMemory, Planned, StaysMount, given, given_back, most_asked}
 use Rattle.mount_rules.specs.Mount.{IsMount, MountModel}
 use Rattle.mount_model.specs.Observing.{Observed}
-use Rattle.mount_rules.specs.Plans.{Allows, Plan, Source, Step, answers_of, done}
+use Rattle.mount_rules.specs.Plans.{Allows, IsHarmless, Plan, Source, Step, answers_of, done}
 use Rattle.mount_rules.specs.Rules.{Rules, Taken}
 use Rattle.mount_rules.specs.View.{view_of}
+use Rattle.mount_laws.proofs.Asking.{asks_none}
 use Rattle.mount_laws.proofs.Guarding.{errors_differ}
 use Rattle.mount_laws.proofs.Keeping.{Keeps-same, no_Some}
 use Rattle.mount_laws.proofs.Mounts.{GivesLater-same}
@@ -53,7 +55,7 @@ not_served e = errors_differ (λ same. absurd (omega (arith, same))) e
 no_error : None ≢ Some enomem
 no_error e = cc
 
-pub sound : (request : Request) → IsSound (rules_of request) (back_by request)
+pub sound : (request : Request) → IsSound (rules_of request) (back_by request) (most_asked request)
 sound (Lookup node name) = lookup_sound node name
 sound (Forget node count) = forget_sound node count
 sound Statfs = statfs_sound
@@ -140,6 +142,22 @@ claims_cover config second mount request seen op allows = by (goes_on mount requ
         → IsCovered (if on then (rules_of request).claims (view_in mount request) else []) op
     by true allows = (sound request).covers (taken_at config second mount request) (answers_of seen) op allows
     by false allows = absurd allows
+
+pub harmless_while_asking : HarmlessWhileAsking
+harmless_while_asking config second mount request seen = by (goes_on mount request)
+  where
+    by : (on : Bool) → Planned (if on then (rules_of request).plan (taken_at config second mount request) else (λ answers. done)) seen
+        → ((if on then (rules_of request).plan (taken_at config second mount request) else (λ answers. done)) (answers_of seen) ≢ done)
+        → AllByRecursion (λ (o : Observed). IsHarmless o.op) seen
+    by true planned asks = (sound request).harmless (taken_at config second mount request) seen planned asks
+    by false planned asks = absurd (asks refl)
+
+pub asks_at_most : AsksAtMost
+asks_at_most config second mount request seen most is = by (goes_on mount request)
+  where
+    by : (on : Bool) → Planned (if on then (rules_of request).plan (taken_at config second mount request) else (λ answers. done)) seen → length seen ≤ most
+    by true planned = (sound request).bounded (taken_at config second mount request) seen most is planned
+    by false planned = let few : length seen ≤ 0 = asks_none (λ answers. done) refl seen planned in omega (arith, few)
 
 -- no request that is performed to its end is answered ENOMEM
 pub never_out_of_memory : NeverOutOfMemory

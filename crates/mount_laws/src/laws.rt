@@ -4,13 +4,16 @@ ghost use Rattle.mount_rules.specs.Overlap.{OpenCallsSee};
 
 /// What holds of every request at every mount: a mount stays one and gives no number again; what a call leaves to calls
 /// whose claims don't conflict with its own; that a call with claims of its own sees the same meanwhile; that its claims
-/// cover what it asks; and that it is never answered ENOMEM where it is performed to its end.
+/// cover what it asks; that it is never answered ENOMEM where it is performed to its end; that nothing
+/// it made is an insert, an update or a delete while it still asks; and how much it asks at most.
 pub fn request_laws()
     ensures mounts { laws.StaysMount }
     ensures leaves { laws.LeavesOthers }
     ensures claims { laws.ClaimsProtect }
     ensures covers { laws.ClaimsCover }
     ensures memory { laws.NeverOutOfMemory }
+    ensures harmless { laws.HarmlessWhileAsking }
+    ensures bounded { laws.AsksAtMost }
 {
 }
 

@@ -1,15 +1,16 @@
 -- What is proved of the requests and of runs, as statements.
 use Rattle.std.specs.Prelude.{◌≡◌, ◌≢◌, ℕ, ◌+◌, ◌-◌, ◌<◌, ◌≤◌, Bool, true, false, ◌==◌, List, [], ◌∷◌, ◌++◌, length, Option, Some, None, All, if◌then◌else◌}
 use Rattle.std.specs.FinMap as fin
+use Rattle.std.specs.List.{AllByRecursion}
 use Rattle.bucket_api.specs.BucketState.{BucketState}
 use Rattle.bucket_api.specs.Operation.{Operation, stat, read, insert, update, delete, copy, list, IsAllowed}
 use Rattle.claim_spec.specs.Conflicts.{AreApart, IsClaimed, IsOwned}
 use Rattle.claim_spec.specs.declared.claim.Claim.{Claim}
 use Rattle.claim_spec.specs.declared.claim.ClaimKey.TheVariants as key
 use Rattle.fuse_replies.specs.declared.reply.Reply.{Reply}
-use Rattle.fuse_replies.specs.declared.reply.Reply.TheVariants.{Error, Entry, Created}
+use Rattle.fuse_replies.specs.declared.reply.Reply.TheVariants.{Error, Entry, Created as CreatedReply}
 use Rattle.fuse_requests.specs.declared.request.Request.{Request}
-use Rattle.fuse_requests.specs.declared.request.Request.TheVariants.{Forget}
+use Rattle.fuse_requests.specs.declared.request.Request.TheVariants.{Create, Forget, Lookup, Opendir}
 use Rattle.handle_table.specs.Handles.{Opened}
 use Rattle.inode_spec.specs.Inodes.{lookups_of}
 use Rattle.mount_model.specs.declared.config.Config.{Config}
@@ -19,7 +20,7 @@ use Rattle.fuse_replies.specs.Errno.{enomem}
 use Rattle.mount_rules.specs.Mount.{IsMount, MountModel}
 use Rattle.mount_rules.specs.OneThread.{Call, IsRun, Ending, RunState, first_state, performed, short, reply_by, reply_in, state_after_call, state_after_calls}
 use Rattle.mount_model.specs.Observing.{Observed}
-use Rattle.mount_rules.specs.Plans.{Allows, Completes, Step, answers_of, done}
+use Rattle.mount_rules.specs.Plans.{Allows, IsHarmless, Plan, Step, answers_of, done, plan_after}
 use Rattle.mount_rules.specs.View.{Named, Sight, View, current_at, kept_at, sight_at}
 
 -- ---- a mount stays one
@@ -69,6 +70,29 @@ abbrev pub ClaimsCover : Type 0
 ClaimsCover = (config : Config) (second : ℕ) (mount : MountModel) (request : Request) (seen : List Observed) (op : Operation)
     → Allows (plan config second mount request (answers_of seen)) op → IsCovered (claims mount request) op
 
+-- the plan asked for each of these, one after the other
+abbrev pub Planned : Plan → List Observed → Type 0
+Planned plan [] = Unit {0}
+Planned plan (o ∷ more) = Allows (plan []) o.op × Planned (plan_after plan o.answer) more
+
+-- while a plan still asks, nothing that it has asked made an insert, an update or a delete: so a call that stops short
+-- leaves at most a copy
+abbrev pub HarmlessWhileAsking : Type 0
+HarmlessWhileAsking = (config : Config) (second : ℕ) (mount : MountModel) (request : Request) (seen : List Observed)
+    → Planned (plan config second mount request) seen → plan config second mount request (answers_of seen) ≢ done
+    → AllByRecursion (λ (o : Observed). IsHarmless o.op) seen
+
+-- the most operations that a request asks; an OPENDIR asks a page for each page of its listing
+abbrev pub most_asked : Request → Option ℕ
+most_asked (Lookup node name) = Some 2
+most_asked (Create node name) = Some 1
+most_asked (Opendir node) = None
+most_asked _ = Some 0
+
+abbrev pub AsksAtMost : Type 0
+AsksAtMost = (config : Config) (second : ℕ) (mount : MountModel) (request : Request) (seen : List Observed) (most : ℕ)
+    → most_asked request ≡ Some most → Planned (plan config second mount request) seen → length seen ≤ most
+
 -- ---- replies
 -- a request that is performed to its end is never answered ENOMEM
 abbrev pub NeverOutOfMemory : Type 0
@@ -87,7 +111,7 @@ ShortAreOutOfMemory = (config : Config) (state : RunState) (call : Call) → IsS
 -- the look-ups of the node that a reply gives
 abbrev pub given : Reply → ℕ → ℕ
 given (Entry entry) number = if number == entry.node then 1 else 0
-given (Created entry fh) number = if number == entry.node then 1 else 0
+given (CreatedReply entry fh) number = if number == entry.node then 1 else 0
 given _ number = 0
 
 -- the look-ups of the node that a request gives back; none before a version is agreed on

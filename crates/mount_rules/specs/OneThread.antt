@@ -1,5 +1,6 @@
 -- The mount on one thread: requests performed one after the other, each at once, on a mount and a bucket.
-use Rattle.std.specs.Prelude.{◌≡◌, ◌≢◌, ℕ, ◌+◌, List, [], ◌∷◌, ◌++◌, All, length, map, Option, Some, None}
+use Rattle.std.specs.Prelude.{◌≡◌, ◌≢◌, ℕ, ◌+◌, List, [], ◌∷◌, ◌++◌, length, map, Option, Some, None}
+use Rattle.std.specs.List.{AllByRecursion}
 use Rattle.bucket_api.specs.BucketState.{BucketState, object_of}
 use Rattle.bucket_api.specs.BucketStep.{answer_to}
 use Rattle.bucket_api.specs.Log.{state_at}
@@ -85,7 +86,7 @@ plan_at config state request = plan config (second_of config) state.mount reques
 -- A call that stops short made nothing but look-ups, copies and lists before, and would have asked something.
 pub record StopsShort (config : Config) (state : RunState) (request : Request) (seen : List Observed) : Type 0 where
   pub asks : plan_at config state request [] ≢ done
-  pub harmless : All (λ (o : Observed). IsHarmless o.op) seen
+  pub harmless : AllByRecursion (λ (o : Observed). IsHarmless o.op) seen
 
 -- A stale call wants a byte of a source that is live no more.
 pub record IsStale (state : RunState) (request : Request) (seen : List Observed) : Type 0 where

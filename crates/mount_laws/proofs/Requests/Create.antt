@@ -1,7 +1,8 @@
 -- CREATE.
-use Rattle.std.proofs.Common.{◌≡◌, ◌≢◌, ◌+◌, ◌-◌, ℕ, Bool, true, false, List, [], ◌∷◌, Option, Some, None, refl, sym, ap, subst, ◌∙◌, arith, inl, inr, nat_cmp, ◌⊎◌}
+use Rattle.std.proofs.Common.{◌≡◌, ◌≢◌, ◌+◌, ◌-◌, ℕ, Bool, true, false, List, [], ◌∷◌, Option, Some, None, refl, sym, ap, subst, ◌∙◌, arith, inl, inr, nat_cmp, ◌⊎◌, ◌≤◌, length}
 use Rattle.std.specs.Prelude.{if◌then◌else◌}
 use Rattle.std.specs.FinMap as fin
+use Rattle.std.specs.List.{AllByRecursion}
 use Rattle.bucket_api.specs.declared.answers.Answer.{Answer}
 use Rattle.bucket_api.specs.Operation.{Operation}
 use Rattle.claim_spec.specs.Conflicts.{IsClaimed}
@@ -10,14 +11,15 @@ use Rattle.claim_spec.specs.declared.claim.ClaimKey.TheVariants as key
 use Rattle.fuse_replies.specs.declared.reply.Reply.TheVariants.{Error}
 use Rattle.handle_table.specs.Handles.{Opened}
 use Rattle.inode_spec.specs.Inodes.{granted, lookups_of}
+use Rattle.mount_model.specs.Observing.{Observed}
 use Rattle.mount_model.specs.declared.config.Config.{Config}
 use Rattle.object_names.specs.Paths.{IsPath}
 use Rattle.mount_rules.specs.Claiming.{owns_name, shares_node}
 use Rattle.fuse_replies.specs.Errno.{eexist, eio, enomem}
 use Rattle.mount_rules.specs.Guards.{part_refusal}
-use Rattle.mount_rules.specs.Laws.{GivesLater, IsCovered, Keeps, given}
+use Rattle.mount_rules.specs.Laws.{GivesLater, IsCovered, Keeps, Planned, given}
 use Rattle.mount_rules.specs.Mount.{IsMount, MountModel, Node}
-use Rattle.mount_rules.specs.Plans.{Allows, answers_of}
+use Rattle.mount_rules.specs.Plans.{Allows, IsHarmless, answers_of, done}
 use Rattle.mount_rules.specs.Requests.Create as create
 use Rattle.mount_rules.specs.Making as making
 use Rattle.mount_rules.specs.Making.{Made, new, exists, fault}
@@ -74,12 +76,24 @@ covers : (path : List ℕ) (second : ℕ) (answers : List Answer) (node : ℕ) (
 covers path second [] node op allows = subst (IsCovered (shares_node node ∷ owns_name path ∷ [])) (sym allows) (inr (inl (refl, refl)))
 covers path second (a ∷ more) node op allows = absurd allows
 
-pub create_sound : (node : ℕ) (name : List ℕ) → IsSound (create.rules node name) (λ number. 0)
+-- once the insert is made, nothing is asked
+harmless : (path : List ℕ) (second : ℕ) (seen : List Observed) → making.plan path [] second (answers_of seen) ≢ done → AllByRecursion (λ (o : Observed). IsHarmless o.op) seen
+harmless path second [] asks = tt
+harmless path second (o ∷ more) asks = absurd (asks refl)
+
+asks_one : (path : List ℕ) (second : ℕ) (seen : List Observed) → Planned (making.plan path [] second) seen → length seen ≤ 1
+asks_one path second [] planned = omega arith
+asks_one path second (o ∷ []) planned = omega arith
+asks_one path second (o ∷ p ∷ more) planned = absurd planned.1.0
+
+pub create_sound : (node : ℕ) (name : List ℕ) → IsSound (create.rules node name) (λ number. 0) (Some 1)
 create_sound node name = record {
   later = λ config second mount seen goes. later mount goes.is _ _ (HasPath-none mount node name goes.is goes.free).is_path (making.made (answers_of seen));
   leaves = λ config second mount seen goes. leaves mount goes.is _ _ _ (inr (inl refl)) (making.made (answers_of seen));
   sees = λ config second mount goes asks. let has = HasPath-none mount node name goes.is goes.free in LooksClaimed-node _ mount node has.sight has.seen (inl refl);
   covers = λ taken answers op allows. covers (create.path_of name taken.view) taken.second answers node op allows;
+  harmless = λ taken seen planned asks. harmless (create.path_of name taken.view) taken.second seen asks;
+  bounded = λ taken seen n is planned. let one : 1 ≡ n = cc in subst (λ m. length seen ≤ m) one (asks_one (create.path_of name taken.view) taken.second seen planned);
   agrees = λ taken mount seen agreed. agrees mount _ _ agreed (making.made (answers_of seen));
   refuses = λ view. in_directory-memory view.node (part_refusal name) (part_refusal-memory name);
   answers = λ taken mount seen. answers taken.config mount (create.path_of name taken.view) _ (making.made (answers_of seen));

@@ -14,9 +14,11 @@ use Rattle.mount_rules.specs.Claiming.{owns_node}
 use Rattle.fuse_replies.specs.Errno.{enomem}
 use Rattle.mount_rules.specs.Laws.{GivesLater, Keeps}
 use Rattle.mount_rules.specs.Mount.{IsMount, MountModel, Node}
+use Rattle.mount_rules.specs.Plans.{done}
 use Rattle.mount_rules.specs.Requests.Forget as forget
 use Rattle.mount_rules.specs.View.{Sight, sight_at, sight_of}
 use Rattle.mount_laws.proofs.Counting.{counts_forgotten}
+use Rattle.mount_laws.proofs.Asking.{asks_none, at_most_none}
 use Rattle.mount_laws.proofs.Keeping.{TableKeeps, TableKeeps-forgotten, TableKeeps-same, Keeps-table, same_Some}
 use Rattle.mount_laws.proofs.Mounts.{GivesLater-table, IsNodeTable-of, TableLater, TableLater-forgotten, TableLater-same}
 use Rattle.mount_laws.proofs.Sound.{IsSound}
@@ -76,12 +78,14 @@ module _ (mount : MountModel) (is : IsMount mount) (k count : ℕ) (held : Bool)
       on_root true e = TableKeeps-same _ mount.table
       on_root false e = at (fin.get mount.table.nodes k)
 
-pub forget_sound : (node count : ℕ) → IsSound (forget.rules node count) (λ number. if nat_eq number node then count else 0)
+pub forget_sound : (node count : ℕ) → IsSound (forget.rules node count) (λ number. if nat_eq number node then count else 0) (Some 0)
 forget_sound node count = record {
   later = λ config second mount seen goes. GivesLater-table mount goes.is _ (later mount goes.is node count (forget.is_held mount.handles node));
   leaves = λ config second mount seen goes. Keeps-table _ mount _ (leaves mount goes.is node count (forget.is_held mount.handles node));
   sees = λ config second mount goes asks. absurd (asks refl);
   covers = λ taken answers op allows. absurd allows;
+  harmless = λ taken seen planned asks. absurd (asks refl);
+  bounded = λ taken seen n is planned. at_most_none seen n is (asks_none (λ answers. done) refl seen planned);
   agrees = λ taken mount seen agreed. agreed;
   refuses = λ view. no_error;
   answers = λ taken mount seen. silent_answered;

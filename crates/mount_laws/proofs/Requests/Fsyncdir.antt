@@ -13,7 +13,7 @@ no_error e = cc
 answered : Empty ≡ Error enomem → ⊥
 answered e = cc
 
-pub fsyncdir_sound : (node fh : ℕ) → IsSound (fsyncdir.rules node fh) (λ number. 0)
+pub fsyncdir_sound : (node fh : ℕ) → IsSound (fsyncdir.rules node fh) (λ number. 0) (Some 0)
 fsyncdir_sound node fh = IsSound-quiet (fsyncdir.rules node fh) (record {
   plan_done = λ taken answers. refl;
   stays = λ taken mount seen. refl;

@@ -8,7 +8,9 @@ use Rattle.inode_spec.specs.Inodes.{lookups_of}
 use Rattle.fuse_replies.specs.Errno.{enomem, eproto}
 use Rattle.mount_rules.specs.Laws.{GivesLater, Keeps, given}
 use Rattle.mount_rules.specs.Mount.{IsMount, MountModel}
+use Rattle.mount_rules.specs.Plans.{done}
 use Rattle.mount_rules.specs.Requests.Init as init
+use Rattle.mount_laws.proofs.Asking.{asks_none, at_most_none}
 use Rattle.mount_laws.proofs.Keeping.{Keeps-same}
 use Rattle.mount_laws.proofs.Mounts.{GivesLater-negotiated, GivesLater-same}
 use Rattle.mount_laws.proofs.Sound.{IsSound}
@@ -43,12 +45,14 @@ module _ (major minor readahead flags : ℕ) where
   gives number false true = refl
   gives number false false = refl
 
-  pub init_sound : IsSound (init.rules major minor readahead flags) (λ number. 0)
+  pub init_sound : IsSound (init.rules major minor readahead flags) (λ number. 0) (Some 0)
   init_sound = record {
     later = λ config second mount seen goes. later mount goes.is (init.is_taken major minor);
     leaves = λ config second mount seen goes. leaves mount (init.is_taken major minor);
     sees = λ config second mount goes asks. absurd (asks refl);
     covers = λ taken answers op allows. absurd allows;
+    harmless = λ taken seen planned asks. absurd (asks refl);
+    bounded = λ taken seen n is planned. at_most_none seen n is (asks_none (λ answers. done) refl seen planned);
     agrees = λ taken mount seen agreed. agrees mount agreed (init.is_taken major minor);
     refuses = λ view. no_error;
     answers = λ taken mount seen. answers (init.is_newer major) (init.is_taken major minor);

@@ -1,5 +1,5 @@
 -- LOOKUP.
-use Rattle.std.proofs.Common.{◌≡◌, ◌≢◌, ◌+◌, ◌-◌, ℕ, Bool, true, false, List, [], ◌∷◌, Option, Some, None, refl, sym, ap, subst, ◌∙◌, arith, inl, inr}
+use Rattle.std.proofs.Common.{◌≡◌, ◌≢◌, ◌+◌, ◌-◌, ℕ, Bool, true, false, List, [], ◌∷◌, Option, Some, None, refl, sym, ap, subst, ◌∙◌, arith, inl, inr, ◌≤◌, length}
 use Rattle.std.specs.Prelude.{if◌then◌else◌}
 use Rattle.std.specs.Option.{option_map_or}
 use Rattle.bucket_api.specs.declared.answers.Answer.{Answer}
@@ -14,14 +14,16 @@ use Rattle.object_names.specs.Paths.{IsPath, bare_name, dir_prefix_of, has_suffi
 use Rattle.object_names.specs.declared.component.NameFault.{NameFault}
 use Rattle.fuse_replies.specs.Errno.{eio, enoent, enomem}
 use Rattle.mount_rules.specs.Guards.{part_refusal}
-use Rattle.mount_rules.specs.Laws.{IsCovered, given}
+use Rattle.mount_model.specs.Observing.{Observed}
+use Rattle.mount_rules.specs.Laws.{IsCovered, Planned, given}
 use Rattle.mount_rules.specs.Mount.{MountModel, NodeTable}
-use Rattle.mount_rules.specs.Plans.{Allows, Step, answers_of, ask, done}
+use Rattle.mount_rules.specs.Plans.{Allows, IsHarmless, Step, answers_of, ask, done}
 use Rattle.mount_rules.specs.Requests.Lookup as lookup
 use Rattle.mount_rules.specs.Requests.Lookup.{Found, directory, object, nothing, fault, Probed, present, absent, failed}
 use Rattle.mount_rules.specs.Rules.{Taken}
 use Rattle.mount_rules.specs.Showing.{directory_again, new_directory, new_node, object_again}
 use Rattle.mount_rules.specs.View.{View}
+use Rattle.mount_laws.proofs.Asking.{harmless_all}
 use Rattle.mount_laws.proofs.Children.{HasPath, HasPath-none, IsNameOf-object, IsPrefix-path}
 use Rattle.mount_laws.proofs.Guarding.{in_directory-memory, part_refusal-memory}
 use Rattle.mount_laws.proofs.Keeping.{Keeps-table, TableKeeps, TableKeeps-same}
@@ -47,6 +49,30 @@ asks_path implicit path suffixed (a ∷ []) claimed op dir name allows = by (loo
     by absent false allows = subst (IsCovered claimed) (sym allows) name
     by failed s allows = absurd allows
 asks_path implicit path suffixed (a ∷ b ∷ more) claimed op dir name allows = absurd allows
+
+-- each of its operations is a list or a stat
+asks_harmless : (implicit : Bool) (path : List ℕ) (suffixed : Bool) (told : List Answer) (op : Operation) → Allows (lookup.plan implicit path suffixed told) op → IsHarmless op
+asks_harmless implicit path suffixed [] op allows = subst IsHarmless (sym allows) (by implicit)
+  where
+    by : (b : Bool) → IsHarmless (if b then list (dir_prefix_of path) false 1 None else stat (dir_prefix_of path))
+    by true = tt
+    by false = tt
+asks_harmless implicit path suffixed (a ∷ []) op allows = by (lookup.probed a) suffixed allows
+  where
+    by : (told : Probed) (s : Bool) → Allows (lookup.after_probe path s told) op → IsHarmless op
+    by present true allows = subst IsHarmless (sym allows) tt
+    by present false allows = absurd allows
+    by absent true allows = absurd allows
+    by absent false allows = subst IsHarmless (sym allows) tt
+    by failed s allows = absurd allows
+asks_harmless implicit path suffixed (a ∷ b ∷ more) op allows = absurd allows
+
+-- it asks two at most
+asks_two : (implicit : Bool) (path : List ℕ) (suffixed : Bool) (seen : List Observed) → Planned (lookup.plan implicit path suffixed) seen → length seen ≤ 2
+asks_two implicit path suffixed [] planned = omega arith
+asks_two implicit path suffixed (o ∷ []) planned = omega arith
+asks_two implicit path suffixed (o ∷ p ∷ []) planned = omega arith
+asks_two implicit path suffixed (o ∷ p ∷ q ∷ more) planned = absurd planned.1.1.0
 
 -- a look-up is answered by a node, or by one of two errors
 answers : (config : Config) (table : NodeTable) (path : List ℕ) (moment : ℕ) (found : Found) → lookup.reply_to config table path moment found ≡ Error enomem → ⊥
@@ -76,7 +102,7 @@ module _ (mount : MountModel) (node : ℕ) (part : List ℕ) (is : IsNodeTable m
   counts config number nothing = omega arith
   counts config number fault = omega arith
 
-pub lookup_sound : (node : ℕ) (name : List ℕ) → IsSound (lookup.rules node name) (λ number. 0)
+pub lookup_sound : (node : ℕ) (name : List ℕ) → IsSound (lookup.rules node name) (λ number. 0) (Some 2)
 lookup_sound node name = record {
   later = λ config second mount seen goes.
       let has = HasPath-none mount node (bare_name name) goes.is goes.free in
@@ -89,6 +115,8 @@ lookup_sound node name = record {
       LooksClaimed-node _ mount node has.sight has.seen (inl refl);
   covers = λ taken answers op allows.
       asks_path taken.config.implicit_dirs (lookup.path_of name taken.view) (has_suffix name) answers (lookup.claims node name taken.view) op (inr (inr (inl refl))) (inr (inl refl)) allows;
+  harmless = λ taken seen planned asks. harmless_all _ (asks_harmless taken.config.implicit_dirs (lookup.path_of name taken.view) (has_suffix name)) seen planned;
+  bounded = λ taken seen n is planned. let two : 2 ≡ n = cc in subst (λ m. length seen ≤ m) two (asks_two taken.config.implicit_dirs (lookup.path_of name taken.view) (has_suffix name) seen planned);
   agrees = λ taken mount seen agreed. agreed;
   refuses = λ view. in_directory-memory view.node (part_refusal (bare_name name)) (part_refusal-memory (bare_name name));
   answers = λ taken mount seen. answers taken.config mount.table (lookup.path_of name taken.view) _ (lookup.found (answers_of seen));

@@ -20,7 +20,7 @@ module _ (node fh first size : ℕ) where
   answered : (entries : List DirItem) → readdir.reply first size entries ≡ Error enomem → ⊥
   answered entries e = cc
 
-  pub readdir_sound : IsSound (readdir.rules node fh first size) (λ number. 0)
+  pub readdir_sound : IsSound (readdir.rules node fh first size) (λ number. 0) (Some 0)
   readdir_sound = IsSound-quiet (readdir.rules node fh first size) (record {
     plan_done = λ taken answers. refl;
     stays = λ taken mount seen. refl;

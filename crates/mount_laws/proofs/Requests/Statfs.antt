@@ -16,7 +16,7 @@ stat_answered e = cc
 empty_answered : Empty ≡ Error enomem → ⊥
 empty_answered e = cc
 
-pub statfs_sound : IsSound statfs.rules (λ number. 0)
+pub statfs_sound : IsSound statfs.rules (λ number. 0) (Some 0)
 statfs_sound = IsSound-quiet statfs.rules (record {
   plan_done = λ taken answers. refl;
   stays = λ taken mount seen. refl;
@@ -25,7 +25,7 @@ statfs_sound = IsSound-quiet statfs.rules (record {
   gives = λ taken mount seen number. refl;
 })
 
-pub destroy_sound : IsSound destroy.rules (λ number. 0)
+pub destroy_sound : IsSound destroy.rules (λ number. 0) (Some 0)
 destroy_sound = IsSound-quiet destroy.rules (record {
   plan_done = λ taken answers. refl;
   stays = λ taken mount seen. refl;

@@ -9,7 +9,7 @@ use Rattle.mount_laws.proofs.Sound.{IsSound}
 silent_answered : Silent ≡ Error enomem → ⊥
 silent_answered e = cc
 
-pub unserved_sound : (errno : Option ℕ) → errno ≢ Some enomem → IsSound (unserved.rules errno) (λ number. 0)
+pub unserved_sound : (errno : Option ℕ) → errno ≢ Some enomem → IsSound (unserved.rules errno) (λ number. 0) (Some 0)
 unserved_sound errno other = IsSound-quiet (unserved.rules errno) (record {
   plan_done = λ taken answers. refl;
   stays = λ taken mount seen. refl;
