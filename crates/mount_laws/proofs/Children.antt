@@ -1,19 +1,17 @@
 -- The paths of children: a part of a live directory has a path, and a directory's prefix.
-use Rattle.std.proofs.Common.{◌≡◌, ◌≤◌, ℕ, Bool, true, false, List, [], ◌∷◌, ◌++◌, Option, Some, None, refl, sym, ap, subst, ◌∙◌, length, option_map}
+use Rattle.std.proofs.Common.{◌≡◌, ◌≤◌, ℕ, Bool, true, false, List, [], ◌∷◌, Option, Some, None, refl, sym, ap, subst, ◌∙◌, length, option_map}
 use Rattle.std.proofs.lemmas.List.Elements.{All-nil}
-use Rattle.std.specs.Prelude.{option_and_then}
 use Rattle.std.specs.FinMap as fin
 use Rattle.bucket_api.specs.Metadata.{Metadata}
 use Rattle.dir_listing.specs.Kinds.{file_or_link, has_target}
 use Rattle.object_names.proofs.PathLemmas.{IsPrefix-dir}
 use Rattle.object_names.specs.Components.{IsComponent}
 use Rattle.object_names.specs.Paths.{IsPath, IsPrefix, dir_prefix_of}
-use Rattle.object_names.specs.declared.shown.NodeKind.{NodeKind}
 use Rattle.object_names.specs.declared.shown.NodeKind.TheVariants.{Dir}
 use Rattle.mount_rules.specs.Guards.{in_directory, part_refusal, path_in}
 use Rattle.mount_rules.specs.Mount.{IsMount, IsNameOf, MountModel, Node, NodeTable}
 use Rattle.mount_rules.specs.View.{Sight, child_of, sight_at, sight_of}
-use Rattle.mount_laws.proofs.Guarding.{IsChild, SeesDirectory, in_directory-none, part_refusal-none}
+use Rattle.mount_laws.proofs.Guarding.{in_directory-none, part_refusal-none}
 use Rattle.mount_laws.proofs.Keeping.{no_Some, same_Some}
 
 -- the node behind a sight

@@ -1,7 +1,7 @@
 -- What is known where a guard refuses nothing: what it looked at is there.
-use Rattle.std.proofs.Common.{◌≡◌, ℕ, Bool, true, false, List, Option, Some, None, refl, sym, ap, subst, ◌∙◌, length, ◌≤◌, nat_le, nat_eq, arith}
+use Rattle.std.proofs.Common.{◌≡◌, ℕ, Bool, true, false, List, Option, Some, None, refl, length, ◌≤◌, nat_le, nat_eq, arith}
 use Rattle.std.proofs.lemmas.Bool.Decides.{Decides-eqb, nat_tests}
-use Rattle.std.specs.Prelude.{if◌then◌else◌, option_and_then}
+use Rattle.std.specs.Prelude.{if◌then◌else◌}
 use Rattle.std.specs.Option.{option_map_or}
 use Rattle.handle_table.specs.Handles.{Opened}
 use Rattle.object_names.proofs.ComponentLemmas.{IsComponent-from_no_fault}
@@ -13,7 +13,7 @@ use Rattle.object_names.specs.declared.shown.DirItem.{DirItem}
 use Rattle.object_names.specs.declared.shown.NodeKind.{NodeKind}
 use Rattle.object_names.specs.declared.shown.NodeKind.TheVariants.{Dir, File, Symlink}
 use Rattle.fuse_replies.specs.Errno.{ebadf, enametoolong, enomem, enotdir, estale}
-use Rattle.mount_rules.specs.Guards.{entries_opened, errno_of_fault, in_directory, is_directory, on_live, on_open_directory, part_refusal}
+use Rattle.mount_rules.specs.Guards.{errno_of_fault, in_directory, is_directory, on_live, on_open_directory, part_refusal}
 use Rattle.mount_rules.specs.View.{Sight, child_of}
 
 -- a live node was seen, and what comes behind the guard refuses nothing either

@@ -1,5 +1,5 @@
 -- What keeps a mount one: changes of its table and of its handles.
-use Rattle.std.proofs.Common.{◌≡◌, ◌≢◌, ◌<◌, ◌≤◌, ◌+◌, ◌-◌, ℕ, Bool, true, false, cond, List, [], Option, Some, None, refl, sym, ap, subst, ◌∙◌, ◌⊎◌, inl, inr, nat_eq, nat_cmp, nat_le, nat_lt, arith}
+use Rattle.std.proofs.Common.{◌≡◌, ◌≢◌, ◌<◌, ◌≤◌, ◌+◌, ◌-◌, ℕ, Bool, true, false, List, [], Option, Some, None, refl, sym, ap, subst, ◌∙◌, ◌⊎◌, inl, inr, nat_eq, nat_cmp, nat_le, nat_lt, arith}
 use Rattle.std.proofs.lemmas.Bool.{false≢true}
 use Rattle.std.proofs.lemmas.Bool.Decides.{Decides-eqb, nat_tests}
 use Rattle.std.proofs.lemmas.List.Elements.{All-nil}
@@ -8,11 +8,11 @@ use Rattle.std.specs.Cmp.Lexicographic.{slice_cmp}
 use Rattle.std.specs.FinMap as fin
 use Rattle.std.specs.Option.{option_map_or}
 use Rattle.handle_table.specs.Handles.{Opened}
-use Rattle.inode_spec.specs.Inodes.{IsLiveUnder, Names, first_table, forgotten_at, granted, is_live, left_without, root, with_inode, without_current}
+use Rattle.inode_spec.specs.Inodes.{IsLiveUnder, forgotten_at, granted, is_live, left_without, root, with_inode, without_current}
 use Rattle.object_names.specs.Components.{IsComponent}
-use Rattle.object_names.specs.Paths.{IsPrefix, prefix_of}
+use Rattle.object_names.specs.Paths.{IsPrefix}
 use Rattle.mount_rules.specs.Laws.{GivesLater}
-use Rattle.mount_rules.specs.Mount.{File, IsMount, IsNameOf, MountModel, Node, NodeTable, OpenHandles, first_mount}
+use Rattle.mount_rules.specs.Mount.{IsMount, IsNameOf, MountModel, Node, NodeTable, first_mount}
 use Rattle.mount_laws.proofs.Keeping.{no_Some, same_Some}
 use Rattle.spare_maps.proofs.FinMaps.{number_put, number_put_same, number_put_other, number_taken, number_taken_other, name_put, name_taken}
 

@@ -7,12 +7,12 @@ use Rattle.claim_spec.specs.Conflicts.{AreApart}
 use Rattle.claim_spec.specs.declared.claim.Claim.{Claim}
 use Rattle.fuse_replies.specs.Errno.{eproto}
 use Rattle.fuse_requests.specs.declared.request.Request.{Request}
-use Rattle.fuse_requests.specs.declared.request.Request.TheVariants.{Forget, BatchForget, Interrupt, Init, Unknown}
+use Rattle.fuse_requests.specs.declared.request.Request.TheVariants.{Init, Unknown}
 use Rattle.mount_model.specs.Observing.{Observed}
 use Rattle.mount_model.specs.declared.config.Config.{Config}
 use Rattle.mount_rules.specs.Dispatch.{claims, goes_on, is_init, is_silent, mount_after, plan, rules_of, view_in}
 use Rattle.mount_rules.specs.Mount.{IsMount, MountModel, first_mount}
-use Rattle.mount_rules.specs.Overlap.{ApartFromAll, HappenFrom, MayHappen, OpenCall, OpenCallsSee, SeesAsTaken, Shared, Turn, after_done, after_turn, after_turns, at_once, done, opened_at, others_than, take, tick}
+use Rattle.mount_rules.specs.Overlap.{ApartFromAll, HappenFrom, MayHappen, OpenCall, OpenCallsSee, SeesAsTaken, Shared, Turn, after_done, after_turn, after_turns, at_once, done, others_than, take, tick}
 use Rattle.mount_rules.specs.Plans as plans
 use Rattle.mount_rules.specs.Plans.{Plan, Step}
 use Rattle.mount_rules.specs.View.{View}
@@ -130,9 +130,10 @@ apart_from_others (suc place) (p ∷ os) o is apart =
 all_going : (config : Config) (mount : MountModel) → IsMount mount → (second : ℕ) (request : Request) (seen : List Observed) (os : List OpenCall)
     → ApartFromAll (claims mount request) os → AllByRecursion (IsGoing config mount) os → AllByRecursion (IsGoing config (mount_after config second mount request seen)) os
 all_going config mount is second request seen [] apart going = tt
-all_going config mount is second request seen (o ∷ os) apart going =
-    (IsGoing-after config mount o is going.0 second request seen (AreApart-swap (claims mount request) o.claimed apart.0),
-      all_going config mount is second request seen os apart.1 going.1)
+all_going config mount is second request seen (o ∷ os) apart going = (
+  IsGoing-after config mount o is going.0 second request seen (AreApart-swap (claims mount request) o.claimed apart.0),
+  all_going config mount is second request seen os apart.1 going.1,
+)
 
 IsUnderWay-turn : (config : Config) (shared : Shared) (turn : Turn) → IsUnderWay config shared → MayHappen config shared turn → IsUnderWay config (after_turn config shared turn)
 IsUnderWay-turn config shared (take second request) way may = record {

@@ -1,11 +1,10 @@
 -- Requests that ask nothing of the bucket and leave the mount as it was.
-use Rattle.std.proofs.Common.{◌≡◌, ◌≢◌, ◌+◌, ℕ, List, [], refl, sym, ap, subst, ◌∙◌, arith, Option, Some, None}
+use Rattle.std.proofs.Common.{◌≡◌, ◌≢◌, ℕ, List, [], sym, ap, subst, ◌∙◌, arith, Some}
 use Rattle.bucket_api.specs.declared.answers.Answer.{Answer}
-use Rattle.bucket_api.specs.Operation.{Operation}
 use Rattle.fuse_replies.specs.declared.reply.Reply.TheVariants.{Error}
 use Rattle.inode_spec.specs.Inodes.{lookups_of}
 use Rattle.fuse_replies.specs.Errno.{enomem}
-use Rattle.mount_rules.specs.Laws.{GivesLater, IsCovered, Keeps, given}
+use Rattle.mount_rules.specs.Laws.{GivesLater, Keeps, given}
 use Rattle.mount_rules.specs.Mount.{MountModel}
 use Rattle.mount_model.specs.Observing.{Observed}
 use Rattle.mount_rules.specs.Plans.{Allows, Step, done}

@@ -1,5 +1,5 @@
 -- Every request's rules are sound, one line each; and the laws over all requests that follow.
-use Rattle.std.proofs.Common.{◌≡◌, ◌≢◌, ◌+◌, ◌-◌, ℕ, Bool, true, false, List, [], Option, Some, None, refl, sym, ap, subst, ◌∙◌, arith, ◌≤◌, length}
+use Rattle.std.proofs.Common.{◌≡◌, ◌≢◌, ◌+◌, ◌-◌, ℕ, Bool, true, false, List, [], Option, Some, None, refl, sym, ap, ◌∙◌, arith, ◌≤◌, length}
 use Rattle.std.proofs.lemmas.Bool.{false≢true}
 use Rattle.std.specs.Prelude.{if◌then◌else◌, not, ◌&&◌, ◌==◌, is_some}
 use Rattle.std.specs.List.{AllByRecursion}
@@ -16,9 +16,8 @@ use Rattle.fuse_replies.specs.Errno.{einval, enomem, enosys, eproto}
 use Rattle.mount_rules.specs.Laws.{AsksAtMost, ClaimsCover, ClaimsProtect, GivesLater, HarmlessWhileAsking, IsCovered, Keeps, LeavesOthers, NeverOutOfMemory, Planned, StaysMount, given, given_back, most_asked}
 use Rattle.mount_rules.specs.Mount.{IsMount, MountModel}
 use Rattle.mount_model.specs.Observing.{Observed}
-use Rattle.mount_rules.specs.Plans.{Allows, IsHarmless, Plan, Source, Step, answers_of, done}
-use Rattle.mount_rules.specs.Rules.{Rules, Taken}
-use Rattle.mount_rules.specs.View.{view_of}
+use Rattle.mount_rules.specs.Plans.{Allows, IsHarmless, Plan, Source, answers_of, done}
+use Rattle.mount_rules.specs.Rules.{Taken}
 use Rattle.mount_laws.proofs.Asking.{asks_none}
 use Rattle.mount_laws.proofs.Guarding.{errors_differ}
 use Rattle.mount_laws.proofs.Keeping.{Keeps-same, no_Some}
@@ -34,7 +33,7 @@ use Rattle.mount_laws.proofs.Requests.Releasedir.{releasedir_sound}
 use Rattle.mount_laws.proofs.Requests.Statfs.{destroy_sound, statfs_sound}
 use Rattle.mount_laws.proofs.Requests.Unserved.{unserved_sound}
 use Rattle.mount_laws.proofs.Sights.{view_stays}
-use Rattle.mount_laws.proofs.Sound.{GoesOn, IsSound, taken_by}
+use Rattle.mount_laws.proofs.Sound.{GoesOn, IsSound}
 
 -- the look-ups of a node that a request gives back
 abbrev pub back_by : Request → ℕ → ℕ

@@ -1,16 +1,13 @@
 -- Laws of runs of the mount on one thread.
 use Rattle.std.proofs.Common.{◌≡◌, ◌≢◌, ◌+◌, ◌-◌, ℕ, List, [], ◌∷◌, ◌++◌, refl, sym, ap, subst, ◌∙◌, arith}
-use Rattle.bucket_api.specs.BucketState.{BucketState}
-use Rattle.fuse_replies.specs.declared.reply.Reply.{Reply}
 use Rattle.fuse_replies.specs.declared.reply.Reply.TheVariants.{Error}
 use Rattle.inode_spec.specs.Inodes.{lookups_of}
 use Rattle.mount_model.specs.declared.config.Config.{Config}
 use Rattle.fuse_replies.specs.Errno.{enomem, estale}
 use Rattle.mount_rules.specs.Laws.{CountsDecide, GivesLater, IsShortBy, NumbersRise, ShortAreOutOfMemory, count_along, given, given_back}
-use Rattle.mount_rules.specs.Mount.{IsMount, MountModel}
+use Rattle.mount_rules.specs.Mount.{IsMount}
 use Rattle.mount_rules.specs.OneThread.{Call, Ending, Ends, IsLawful, IsRun, RunState, first_state, mount_by, performed, reply_by, reply_in, second_of, short, stale, state_after_call, state_after_calls}
 use Rattle.mount_laws.proofs.Counting.{counts_first}
-use Rattle.mount_laws.proofs.Guarding.{errors_differ}
 use Rattle.mount_laws.proofs.Mounts.{GivesLater-same, GivesLater-then, IsMount-first}
 use Rattle.mount_laws.proofs.RequestLaws.{back_asks, back_wants, counts, later, never_out_of_memory}
 

@@ -1,17 +1,17 @@
 -- Showing a name leaves a table of nodes, what others may see of it, and one look-up more of the node that is shown.
-use Rattle.std.proofs.Common.{◌≡◌, ◌≢◌, ◌≤◌, ◌<◌, ◌+◌, ◌-◌, ℕ, Bool, true, false, cond, List, Option, Some, None, refl, sym, ap, subst, ◌∙◌, nat_eq, nat_cmp, nat_lt, arith}
+use Rattle.std.proofs.Common.{◌≡◌, ◌≤◌, ◌+◌, ◌-◌, ℕ, Bool, true, false, List, Option, Some, None, refl, sym, ap, subst, ◌∙◌, nat_eq, nat_lt, arith}
 use Rattle.std.proofs.lemmas.Bool.Decides.{nat_tests}
-use Rattle.std.specs.Prelude.{if◌then◌else◌, ◌||◌, option_and_then, max}
+use Rattle.std.specs.Prelude.{if◌then◌else◌, ◌||◌, option_and_then}
 use Rattle.std.specs.FinMap as fin
 use Rattle.std.specs.Option.{option_map_or}
 use Rattle.bucket_api.specs.Metadata.{Metadata}
 use Rattle.claim_spec.specs.Conflicts.{IsClaimed}
 use Rattle.claim_spec.specs.declared.claim.Claim.{Claim}
 use Rattle.claim_spec.specs.declared.claim.ClaimKey.TheVariants as key
-use Rattle.inode_spec.specs.Inodes.{is_live, looked_up, lookups_of, with_inode}
-use Rattle.mount_rules.specs.Mount.{File, IsNameOf, Kept, Node, NodeTable}
-use Rattle.mount_rules.specs.Showing.{Numbered, current_shown, directory_again, new_directory, new_node, object_again, refreshed, shown_again, shown_or_new, stands_for, with_shown_or_new}
-use Rattle.mount_rules.specs.View.{Sight, sight_of}
+use Rattle.inode_spec.specs.Inodes.{is_live, looked_up, lookups_of}
+use Rattle.mount_rules.specs.Mount.{File, IsNameOf, Node, NodeTable}
+use Rattle.mount_rules.specs.Showing.{Numbered, current_shown, directory_again, object_again, refreshed, shown_again, shown_or_new, stands_for, with_shown_or_new}
+use Rattle.mount_rules.specs.View.{sight_of}
 use Rattle.mount_laws.proofs.Counting.{count_of, counts_more}
 use Rattle.mount_laws.proofs.Keeping.{TableKeeps, TableKeeps-granted, TableKeeps-written, no_Some, same_Some}
 use Rattle.mount_laws.proofs.Mounts.{IsNodeTable, TableLater, TableLater-granted, TableLater-written}

@@ -1,5 +1,5 @@
 -- A request sees the same after another call whose claims don't conflict with its own.
-use Rattle.std.proofs.Common.{◌≡◌, ℕ, Bool, List, [], ◌∷◌, ◌++◌, Option, Some, None, refl, sym, ap, subst, ◌∙◌, option_map}
+use Rattle.std.proofs.Common.{◌≡◌, ℕ, List, [], Option, Some, None, refl, sym, ap, subst, ◌∙◌}
 use Rattle.std.specs.Prelude.{map, option_and_then}
 use Rattle.std.specs.FinMap as fin
 use Rattle.claim_spec.specs.Conflicts.{AreApart, IsClaimed, IsOwned}
@@ -7,9 +7,9 @@ use Rattle.claim_spec.specs.declared.claim.Claim.{Claim}
 use Rattle.claim_spec.specs.declared.claim.ClaimKey.TheVariants as key
 use Rattle.handle_table.specs.Handles.{Opened}
 use Rattle.mount_rules.specs.Laws.{Keeps}
-use Rattle.mount_rules.specs.Mount.{MountModel, NodeTable}
+use Rattle.mount_rules.specs.Mount.{MountModel}
 use Rattle.mount_rules.specs.Rules.{at_node}
-use Rattle.mount_rules.specs.View.{Looks, Named, Sight, View, child_of, current_at, kept_at, old_at, sight_at, view_of}
+use Rattle.mount_rules.specs.View.{Looks, Sight, kept_at, old_at, sight_at, view_of}
 use Rattle.mount_laws.proofs.Keeping.{no_Some, same_Some}
 
 -- What a request looks at is there, and it claims what it looks at: the node and the second directory; the node of its

@@ -14,8 +14,7 @@ pub fn request_laws()
     ensures memory { laws.NeverOutOfMemory }
     ensures harmless { laws.HarmlessWhileAsking }
     ensures bounded { laws.AsksAtMost }
-{
-}
+{}
 
 /// What holds while calls are under way beside one another, taken and done in any order, where no two of them have
 /// conflicting claims: each sees what it saw at its take.
@@ -29,5 +28,4 @@ pub fn run_laws()
     ensures counts { laws.CountsDecide }
     ensures numbers { laws.NumbersRise }
     ensures short { laws.ShortAreOutOfMemory }
-{
-}
+{}

@@ -1,6 +1,6 @@
 -- The rules of every request, and the order of what comes before them: a version agreed on, a request that is served,
 -- a body that could be read.
-use Rattle.std.specs.Prelude.{◌≡◌, ◌≢◌, ℕ, Bool, true, false, ◌==◌, ◌&&◌, ◌||◌, not, List, [], ◌∷◌, Option, Some, None, is_some, if◌then◌else◌}
+use Rattle.std.specs.Prelude.{ℕ, Bool, true, false, ◌==◌, ◌&&◌, not, List, [], ◌∷◌, Option, Some, None, is_some, if◌then◌else◌}
 use Rattle.std.specs.List.{list_any}
 use Rattle.std.specs.Option.{option_map_or}
 use Rattle.claim_spec.specs.declared.claim.Claim.{Claim}
@@ -13,7 +13,7 @@ use Rattle.mount_model.specs.declared.config.Config.{Config}
 use Rattle.fuse_replies.specs.Errno.{einval, enosys, eproto}
 use Rattle.mount_rules.specs.Mount.{MountModel}
 use Rattle.mount_model.specs.Observing.{Observed}
-use Rattle.mount_rules.specs.Plans.{Plan, Source, Step, done}
+use Rattle.mount_rules.specs.Plans.{Plan, Source, done}
 use Rattle.mount_rules.specs.Requests.Create as create
 use Rattle.mount_rules.specs.Requests.Destroy as destroy
 use Rattle.mount_rules.specs.Requests.Forget as forget

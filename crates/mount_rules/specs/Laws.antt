@@ -1,9 +1,9 @@
 -- What is proved of the requests and of runs, as statements.
-use Rattle.std.specs.Prelude.{◌≡◌, ◌≢◌, ℕ, ◌+◌, ◌-◌, ◌<◌, ◌≤◌, Bool, true, false, ◌==◌, List, [], ◌∷◌, ◌++◌, length, Option, Some, None, All, if◌then◌else◌}
+use Rattle.std.specs.Prelude.{◌≡◌, ◌≢◌, ℕ, ◌+◌, ◌-◌, ◌≤◌, ◌==◌, List, [], ◌∷◌, ◌++◌, length, Option, Some, None, if◌then◌else◌}
 use Rattle.std.specs.FinMap as fin
 use Rattle.std.specs.List.{AllByRecursion}
 use Rattle.bucket_api.specs.BucketState.{BucketState}
-use Rattle.bucket_api.specs.Operation.{Operation, stat, read, insert, update, delete, copy, list, IsAllowed}
+use Rattle.bucket_api.specs.Operation.{Operation, stat, read, insert, update, delete, copy, list}
 use Rattle.claim_spec.specs.Conflicts.{AreApart, IsClaimed, IsOwned}
 use Rattle.claim_spec.specs.declared.claim.Claim.{Claim}
 use Rattle.claim_spec.specs.declared.claim.ClaimKey.TheVariants as key
@@ -14,14 +14,13 @@ use Rattle.fuse_requests.specs.declared.request.Request.TheVariants.{Create, For
 use Rattle.handle_table.specs.Handles.{Opened}
 use Rattle.inode_spec.specs.Inodes.{lookups_of}
 use Rattle.mount_model.specs.declared.config.Config.{Config}
-use Rattle.mount_model.specs.Configs.{IsConfig}
-use Rattle.mount_rules.specs.Dispatch.{claims, early, goes_on, is_idle, mount_after, plan, reply_to, view_in}
+use Rattle.mount_rules.specs.Dispatch.{claims, mount_after, plan, reply_to, view_in}
 use Rattle.fuse_replies.specs.Errno.{enomem}
 use Rattle.mount_rules.specs.Mount.{IsMount, MountModel}
-use Rattle.mount_rules.specs.OneThread.{Call, IsRun, Ending, RunState, first_state, performed, short, reply_by, reply_in, state_after_call, state_after_calls}
+use Rattle.mount_rules.specs.OneThread.{Call, IsRun, Ending, RunState, first_state, short, reply_by, reply_in, state_after_call, state_after_calls}
 use Rattle.mount_model.specs.Observing.{Observed}
-use Rattle.mount_rules.specs.Plans.{Allows, IsHarmless, Plan, Step, answers_of, done, plan_after}
-use Rattle.mount_rules.specs.View.{Named, Sight, View, current_at, kept_at, sight_at}
+use Rattle.mount_rules.specs.Plans.{Allows, IsHarmless, Plan, answers_of, done, plan_after}
+use Rattle.mount_rules.specs.View.{Sight, kept_at, sight_at}
 
 -- ---- a mount stays one
 abbrev pub StaysMount : Type 0

@@ -1,6 +1,6 @@
 -- Making an object of a name, only where none is live (Cloud Storage: `ifGenerationMatch=0`): what is asked, and what came
 -- of it.
-use Rattle.std.specs.Prelude.{ℕ, [], ◌∷◌, List, Option, Some}
+use Rattle.std.specs.Prelude.{ℕ, [], ◌∷◌, List, Some}
 use Rattle.bucket_api.specs.Metadata.{Metadata}
 use Rattle.bucket_api.specs.declared.answers.Answer.{Answer}
 use Rattle.bucket_api.specs.declared.answers.Answer.TheVariants as answers

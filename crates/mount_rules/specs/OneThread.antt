@@ -1,5 +1,5 @@
 -- The mount on one thread: requests performed one after the other, each at once, on a mount and a bucket.
-use Rattle.std.specs.Prelude.{◌≡◌, ◌≢◌, ℕ, ◌+◌, List, [], ◌∷◌, ◌++◌, length, map, Option, Some, None}
+use Rattle.std.specs.Prelude.{◌≡◌, ◌≢◌, ℕ, ◌+◌, List, [], ◌∷◌, ◌++◌, length, map, Some, None}
 use Rattle.std.specs.List.{AllByRecursion}
 use Rattle.bucket_api.specs.BucketState.{BucketState, object_of}
 use Rattle.bucket_api.specs.BucketStep.{answer_to}

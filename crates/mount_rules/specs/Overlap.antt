@@ -1,6 +1,6 @@
 -- Calls under way beside one another on one mount: each is taken, asks its bucket, and is done; calls that ask nothing are
 -- taken and done in one turn; and the clock ticks. The law of claims along all of that.
-use Rattle.std.specs.Prelude.{◌≡◌, ◌≢◌, ℕ, List, [], ◌∷◌, ◌++◌, slice_get, zero, suc, true, Option, Some, None}
+use Rattle.std.specs.Prelude.{◌≡◌, ◌≢◌, ℕ, List, [], ◌∷◌, slice_get, zero, suc, true, Option, Some, None}
 use Rattle.std.specs.List.{AllByRecursion}
 use Rattle.claim_spec.specs.Conflicts.{AreApart}
 use Rattle.claim_spec.specs.declared.claim.Claim.{Claim}

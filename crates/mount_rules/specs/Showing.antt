@@ -1,6 +1,6 @@
 -- Showing a name: which node the kernel is given for it, and which nodes are then there. Node identity is this project's
 -- own rule: a node keeps its number while the bucket shows the generation that it stands for, or an older moment.
-use Rattle.std.specs.Prelude.{ℕ, max, Bool, false, ◌==◌, ◌||◌, nat_lt, List, Option, Some, None, option_and_then, option_map, if◌then◌else◌}
+use Rattle.std.specs.Prelude.{ℕ, max, Bool, ◌==◌, ◌||◌, nat_lt, List, Option, Some, None, option_and_then, option_map, if◌then◌else◌}
 use Rattle.std.specs.FinMap as fin
 use Rattle.std.specs.Option.{option_map_or}
 use Rattle.bucket_api.specs.Metadata.{Metadata}

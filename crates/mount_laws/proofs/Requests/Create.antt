@@ -1,6 +1,5 @@
 -- CREATE.
-use Rattle.std.proofs.Common.{◌≡◌, ◌≢◌, ◌+◌, ◌-◌, ℕ, Bool, true, false, List, [], ◌∷◌, Option, Some, None, refl, sym, ap, subst, ◌∙◌, arith, inl, inr, nat_cmp, ◌⊎◌, ◌≤◌, length}
-use Rattle.std.specs.Prelude.{if◌then◌else◌}
+use Rattle.std.proofs.Common.{◌≡◌, ◌≢◌, ◌+◌, ◌-◌, ℕ, true, List, [], ◌∷◌, Option, Some, None, refl, sym, ap, subst, arith, inl, inr, ◌≤◌, length}
 use Rattle.std.specs.FinMap as fin
 use Rattle.std.specs.List.{AllByRecursion}
 use Rattle.bucket_api.specs.declared.answers.Answer.{Answer}
@@ -9,7 +8,6 @@ use Rattle.claim_spec.specs.Conflicts.{IsClaimed}
 use Rattle.claim_spec.specs.declared.claim.Claim.{Claim}
 use Rattle.claim_spec.specs.declared.claim.ClaimKey.TheVariants as key
 use Rattle.fuse_replies.specs.declared.reply.Reply.TheVariants.{Error}
-use Rattle.handle_table.specs.Handles.{Opened}
 use Rattle.inode_spec.specs.Inodes.{granted, lookups_of}
 use Rattle.mount_model.specs.Observing.{Observed}
 use Rattle.mount_model.specs.declared.config.Config.{Config}

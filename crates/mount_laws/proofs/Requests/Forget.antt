@@ -1,5 +1,5 @@
 -- FORGET.
-use Rattle.std.proofs.Common.{◌≡◌, ◌≢◌, ℕ, Bool, true, false, List, [], ◌∷◌, Option, Some, None, refl, sym, ap, subst, ◌∙◌, nat_eq, nat_lt, arith, inl, option_map}
+use Rattle.std.proofs.Common.{◌≡◌, ℕ, Bool, true, false, List, [], ◌∷◌, Option, Some, None, refl, sym, subst, ◌∙◌, nat_eq, nat_lt, arith, inl, option_map}
 use Rattle.std.proofs.lemmas.Bool.{false≢true}
 use Rattle.std.proofs.lemmas.Bool.Decides.{Decides-eqb, nat_tests}
 use Rattle.std.specs.Prelude.{if◌then◌else◌, ◌||◌}
@@ -12,14 +12,13 @@ use Rattle.fuse_replies.specs.declared.reply.Reply.TheVariants.{Error, Silent}
 use Rattle.inode_spec.specs.Inodes.{forgotten, forgotten_at, is_live}
 use Rattle.mount_rules.specs.Claiming.{owns_node}
 use Rattle.fuse_replies.specs.Errno.{enomem}
-use Rattle.mount_rules.specs.Laws.{GivesLater, Keeps}
 use Rattle.mount_rules.specs.Mount.{IsMount, MountModel, Node}
 use Rattle.mount_rules.specs.Plans.{done}
 use Rattle.mount_rules.specs.Requests.Forget as forget
-use Rattle.mount_rules.specs.View.{Sight, sight_at, sight_of}
+use Rattle.mount_rules.specs.View.{Sight, sight_of}
 use Rattle.mount_laws.proofs.Counting.{counts_forgotten}
 use Rattle.mount_laws.proofs.Asking.{asks_none, at_most_none}
-use Rattle.mount_laws.proofs.Keeping.{TableKeeps, TableKeeps-forgotten, TableKeeps-same, Keeps-table, same_Some}
+use Rattle.mount_laws.proofs.Keeping.{TableKeeps, TableKeeps-forgotten, TableKeeps-same, Keeps-table}
 use Rattle.mount_laws.proofs.Mounts.{GivesLater-table, IsNodeTable-of, TableLater, TableLater-forgotten, TableLater-same}
 use Rattle.mount_laws.proofs.Sound.{IsSound}
 

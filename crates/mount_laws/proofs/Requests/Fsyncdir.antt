@@ -4,7 +4,7 @@ use Rattle.fuse_replies.specs.declared.reply.Reply.TheVariants.{Error, Empty}
 use Rattle.fuse_replies.specs.Errno.{enomem}
 use Rattle.mount_rules.specs.Requests.Fsyncdir as fsyncdir
 use Rattle.mount_laws.proofs.Guarding.{on_open_directory-memory}
-use Rattle.mount_laws.proofs.Quiet.{IsQuiet, IsSound-quiet}
+use Rattle.mount_laws.proofs.Quiet.{IsSound-quiet}
 use Rattle.mount_laws.proofs.Sound.{IsSound}
 
 no_error : None ≡ Some enomem → ⊥

@@ -1,8 +1,6 @@
 -- INIT.
-use Rattle.std.proofs.Common.{◌≡◌, ◌≢◌, ◌+◌, ◌-◌, ℕ, Bool, true, false, [], refl, arith, Some, None, sym, ap}
-use Rattle.std.proofs.lemmas.Bool.Decides.{nat_tests}
+use Rattle.std.proofs.Common.{◌≡◌, ℕ, Bool, true, false, [], refl, arith, Some, None}
 use Rattle.std.specs.Prelude.{if◌then◌else◌, bit_and}
-use Rattle.fuse_replies.specs.declared.reply.Reply.{Reply}
 use Rattle.fuse_replies.specs.declared.reply.Reply.TheVariants.{Error, InitDone}
 use Rattle.inode_spec.specs.Inodes.{lookups_of}
 use Rattle.fuse_replies.specs.Errno.{enomem, eproto}

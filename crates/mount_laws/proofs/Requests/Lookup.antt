@@ -1,28 +1,24 @@
 -- LOOKUP.
-use Rattle.std.proofs.Common.{◌≡◌, ◌≢◌, ◌+◌, ◌-◌, ℕ, Bool, true, false, List, [], ◌∷◌, Option, Some, None, refl, sym, ap, subst, ◌∙◌, arith, inl, inr, ◌≤◌, length}
+use Rattle.std.proofs.Common.{◌≡◌, ◌+◌, ◌-◌, ℕ, Bool, true, false, List, [], ◌∷◌, Some, None, refl, sym, subst, arith, inl, inr, ◌≤◌, length}
 use Rattle.std.specs.Prelude.{if◌then◌else◌}
-use Rattle.std.specs.Option.{option_map_or}
 use Rattle.bucket_api.specs.declared.answers.Answer.{Answer}
 use Rattle.bucket_api.specs.Operation.{Operation, stat, list}
 use Rattle.claim_spec.specs.Conflicts.{IsClaimed}
 use Rattle.claim_spec.specs.declared.claim.Claim.{Claim}
 use Rattle.claim_spec.specs.declared.claim.ClaimKey.TheVariants as key
-use Rattle.fuse_replies.specs.declared.reply.Reply.TheVariants.{Error, Entry}
+use Rattle.fuse_replies.specs.declared.reply.Reply.TheVariants.{Error}
 use Rattle.inode_spec.specs.Inodes.{lookups_of}
 use Rattle.mount_model.specs.declared.config.Config.{Config}
 use Rattle.object_names.specs.Paths.{IsPath, bare_name, dir_prefix_of, has_suffix}
-use Rattle.object_names.specs.declared.component.NameFault.{NameFault}
 use Rattle.fuse_replies.specs.Errno.{eio, enoent, enomem}
 use Rattle.mount_rules.specs.Guards.{part_refusal}
 use Rattle.mount_model.specs.Observing.{Observed}
 use Rattle.mount_rules.specs.Laws.{IsCovered, Planned, given}
 use Rattle.mount_rules.specs.Mount.{MountModel, NodeTable}
-use Rattle.mount_rules.specs.Plans.{Allows, IsHarmless, Step, answers_of, ask, done}
+use Rattle.mount_rules.specs.Plans.{Allows, IsHarmless, answers_of}
 use Rattle.mount_rules.specs.Requests.Lookup as lookup
 use Rattle.mount_rules.specs.Requests.Lookup.{Found, directory, object, nothing, fault, Probed, present, absent, failed}
-use Rattle.mount_rules.specs.Rules.{Taken}
 use Rattle.mount_rules.specs.Showing.{directory_again, new_directory, new_node, object_again}
-use Rattle.mount_rules.specs.View.{View}
 use Rattle.mount_laws.proofs.Asking.{harmless_all}
 use Rattle.mount_laws.proofs.Children.{HasPath, HasPath-none, IsNameOf-object, IsPrefix-path}
 use Rattle.mount_laws.proofs.Guarding.{in_directory-memory, part_refusal-memory}
@@ -30,7 +26,7 @@ use Rattle.mount_laws.proofs.Keeping.{Keeps-table, TableKeeps, TableKeeps-same}
 use Rattle.mount_laws.proofs.Mounts.{GivesLater-table, IsNodeTable, IsNodeTable-of, TableLater, TableLater-same}
 use Rattle.mount_laws.proofs.Showings.{ShownAgain-directory, ShownAgain-object, shown_counts, shown_keeps, shown_later}
 use Rattle.mount_laws.proofs.Sights.{LooksClaimed-node}
-use Rattle.mount_laws.proofs.Sound.{GoesOn, IsSound}
+use Rattle.mount_laws.proofs.Sound.{IsSound}
 
 -- the operation is the probe or the stat of the path
 asks_path : (implicit : Bool) (path : List ℕ) (suffixed : Bool) (answers : List Answer) (claimed : List Claim) (op : Operation)

@@ -1,20 +1,18 @@
 -- OPENDIR.
-use Rattle.std.proofs.Common.{◌≡◌, ◌≢◌, ◌+◌, ◌-◌, ℕ, true, List, [], ◌∷◌, Option, Some, None, refl, sym, ap, subst, ◌∙◌, arith, inl}
+use Rattle.std.proofs.Common.{◌≡◌, ◌+◌, ◌-◌, ℕ, true, List, [], ◌∷◌, Option, Some, None, refl, sym, subst, arith, inl}
 use Rattle.std.specs.Option.{option_map_or}
-use Rattle.bucket_api.specs.PageData.{PageData}
 use Rattle.bucket_api.specs.declared.answers.Answer.{Answer}
 use Rattle.bucket_api.specs.declared.answers.Answer.TheVariants as answers
-use Rattle.bucket_api.specs.Operation.{Operation, list}
+use Rattle.bucket_api.specs.Operation.{Operation}
 use Rattle.claim_spec.specs.declared.claim.Claim.{Claim}
 use Rattle.fuse_replies.specs.declared.reply.Reply.TheVariants.{Error}
 use Rattle.inode_spec.specs.Inodes.{lookups_of}
 use Rattle.object_names.specs.declared.shown.DirItem.{DirItem}
 use Rattle.mount_rules.specs.Claiming.{shares_node}
 use Rattle.fuse_replies.specs.Errno.{eio, enomem}
-use Rattle.mount_rules.specs.Guards.{in_directory}
 use Rattle.mount_rules.specs.Laws.{GivesLater, IsCovered, Keeps, given}
 use Rattle.mount_rules.specs.Mount.{IsMount, MountModel}
-use Rattle.mount_rules.specs.Plans.{Allows, IsHarmless, answers_of, done}
+use Rattle.mount_rules.specs.Plans.{Allows, IsHarmless, done}
 use Rattle.mount_rules.specs.Requests.Opendir as opendir
 use Rattle.mount_rules.specs.View.{Sight}
 use Rattle.mount_laws.proofs.Guarding.{in_directory-memory, in_directory-none}

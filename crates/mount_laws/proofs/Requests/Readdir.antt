@@ -1,12 +1,12 @@
 -- READDIR.
 use Rattle.std.proofs.Common.{◌≡◌, ℕ, Bool, true, false, List, Some, None, refl, arith, nat_le}
 use Rattle.std.specs.Prelude.{if◌then◌else◌}
-use Rattle.fuse_replies.specs.declared.reply.Reply.TheVariants.{Error, Dirents}
+use Rattle.fuse_replies.specs.declared.reply.Reply.TheVariants.{Error}
 use Rattle.object_names.specs.declared.shown.DirItem.{DirItem}
 use Rattle.fuse_replies.specs.Errno.{einval, enomem}
 use Rattle.mount_rules.specs.Requests.Readdir as readdir
 use Rattle.mount_laws.proofs.Guarding.{errors_differ, on_open_directory-memory}
-use Rattle.mount_laws.proofs.Quiet.{IsQuiet, IsSound-quiet}
+use Rattle.mount_laws.proofs.Quiet.{IsSound-quiet}
 use Rattle.mount_laws.proofs.Sound.{IsSound}
 
 module _ (node fh first size : ℕ) where

@@ -1,5 +1,5 @@
 -- RELEASEDIR.
-use Rattle.std.proofs.Common.{◌≡◌, ◌+◌, ◌-◌, ℕ, List, [], ◌∷◌, Some, None, refl, sym, ap, subst, arith, inl}
+use Rattle.std.proofs.Common.{◌≡◌, ℕ, [], ◌∷◌, Some, None, refl, sym, subst, arith, inl}
 use Rattle.claim_spec.specs.Conflicts.{IsOwned}
 use Rattle.claim_spec.specs.declared.claim.ClaimKey.TheVariants as key
 use Rattle.fuse_replies.specs.declared.reply.Reply.TheVariants.{Error, Empty}

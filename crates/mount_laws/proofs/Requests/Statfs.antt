@@ -1,10 +1,10 @@
 -- STATFS and DESTROY.
-use Rattle.std.proofs.Common.{◌≡◌, ℕ, refl, Some, None}
+use Rattle.std.proofs.Common.{◌≡◌, refl, Some, None}
 use Rattle.fuse_replies.specs.declared.reply.Reply.TheVariants.{Error, Stat, Empty}
 use Rattle.fuse_replies.specs.Errno.{enomem}
 use Rattle.mount_rules.specs.Requests.Destroy as destroy
 use Rattle.mount_rules.specs.Requests.Statfs as statfs
-use Rattle.mount_laws.proofs.Quiet.{IsQuiet, IsSound-quiet}
+use Rattle.mount_laws.proofs.Quiet.{IsSound-quiet}
 use Rattle.mount_laws.proofs.Sound.{IsSound}
 
 no_error : None ≡ Some enomem → ⊥

@@ -1,9 +1,9 @@
 -- Requests that are not served, and those that could not be read.
-use Rattle.std.proofs.Common.{◌≡◌, ◌≢◌, ℕ, refl, Option, Some, None}
+use Rattle.std.proofs.Common.{◌≡◌, ◌≢◌, ℕ, refl, Option, Some}
 use Rattle.fuse_replies.specs.declared.reply.Reply.TheVariants.{Error, Silent}
 use Rattle.fuse_replies.specs.Errno.{enomem}
 use Rattle.mount_rules.specs.Requests.Unserved as unserved
-use Rattle.mount_laws.proofs.Quiet.{IsQuiet, IsSound-quiet}
+use Rattle.mount_laws.proofs.Quiet.{IsSound-quiet}
 use Rattle.mount_laws.proofs.Sound.{IsSound}
 
 silent_answered : Silent ≡ Error enomem → ⊥

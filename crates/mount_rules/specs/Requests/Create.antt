@@ -1,6 +1,6 @@
 -- CREATE: a new file, open (fuse.h: `struct fuse_create_in`, whose flags, mode and umask are not looked at). An empty
 -- object is made at once, only where none is live under the name.
-use Rattle.std.specs.Prelude.{ℕ, ◌+◌, [], ◌∷◌, List, Option, Some, None}
+use Rattle.std.specs.Prelude.{ℕ, ◌+◌, [], ◌∷◌, List, Option, None}
 use Rattle.std.specs.FinMap as fin
 use Rattle.claim_spec.specs.declared.claim.Claim.{Claim}
 use Rattle.fuse_replies.specs.declared.reply.Reply.{Reply}

@@ -1,7 +1,6 @@
 -- LOOKUP: the node of a name in a directory. After gcsfuse: the directory of the name is looked for first, and then the
 -- object; a name with the suffix means the file that a directory of the same name hides.
-use Rattle.std.specs.Prelude.{ℕ, Bool, true, false, ◌∷◌, [], nat_lt, length, List, Option, Some, None, if◌then◌else◌}
-use Rattle.std.specs.Option.{option_map_or}
+use Rattle.std.specs.Prelude.{ℕ, Bool, false, ◌∷◌, [], nat_lt, length, List, Option, None, if◌then◌else◌}
 use Rattle.bucket_api.specs.Metadata.{Metadata}
 use Rattle.bucket_api.specs.declared.answers.Answer.{Answer}
 use Rattle.bucket_api.specs.declared.answers.Answer.TheVariants as answers
@@ -15,10 +14,10 @@ use Rattle.mount_rules.specs.Attributes.{entry_of}
 use Rattle.mount_rules.specs.Claiming.{shares_node, shares_name}
 use Rattle.fuse_replies.specs.Errno.{eio, enoent}
 use Rattle.mount_rules.specs.Guards.{in_directory, part_refusal, path_in}
-use Rattle.mount_rules.specs.Mount.{MountModel, NodeTable}
+use Rattle.mount_rules.specs.Mount.{NodeTable}
 use Rattle.mount_rules.specs.Plans.{Step, answers_of, ask, done, last_moment}
 use Rattle.mount_rules.specs.Rules.{Rules, at_node}
-use Rattle.mount_rules.specs.Showing.{Numbered, shown_by, after_showing, directory_by, after_directory}
+use Rattle.mount_rules.specs.Showing.{shown_by, after_showing, directory_by, after_directory}
 use Rattle.mount_rules.specs.View.{View}
 
 abbrev pub refusal : List ℕ → View → Option ℕ

@@ -8,7 +8,6 @@ use Rattle.bucket_api.specs.PageData.{PageData}
 use Rattle.bucket_api.specs.declared.answers.Answer.{Answer}
 use Rattle.bucket_api.specs.declared.answers.Answer.TheVariants as answers
 use Rattle.bucket_api.specs.Operation.{list}
-use Rattle.claim_spec.specs.declared.claim.Claim.{Claim}
 use Rattle.dir_listing.specs.Pages.{none_listed, with_pages}
 use Rattle.fuse_replies.specs.declared.reply.Reply.{Reply}
 use Rattle.fuse_replies.specs.declared.reply.Reply.TheVariants.{Error, Opened}

@@ -9,7 +9,6 @@ use Rattle.fuse_replies.specs.Layouts.{dirent_len}
 use Rattle.object_names.specs.declared.shown.DirItem.{DirItem}
 use Rattle.object_names.specs.declared.shown.NodeKind.{NodeKind}
 use Rattle.object_names.specs.declared.shown.NodeKind.TheVariants.{Dir, File, Symlink}
-use Rattle.handle_table.specs.Handles.{Opened as OpenHandle}
 use Rattle.mount_rules.specs.Claiming.{shares_node}
 use Rattle.fuse_replies.specs.Errno.{einval}
 use Rattle.mount_rules.specs.Guards.{entries_opened, on_open_directory}
