@@ -2,7 +2,7 @@
 -- that had been seen.
 use Rattle.std.specs.Prelude.{ℕ, List, map}
 use Rattle.fuse_requests.specs.declared.request.Request.{Request}
-use Rattle.fuse_requests.specs.Grammar.{plain}
+use Rattle.fuse_requests.specs.Grammar.{without_spare}
 use Rattle.mount_model.specs.declared.gate.CallId.{CallId}
 use Rattle.mount_model.specs.declared.journal.Fill.{Fill}
 use Rattle.mount_model.specs.declared.journal.How.{How}
@@ -18,7 +18,7 @@ pub data Entry : Type 0 where
 
 -- what the `JournalEntry` says
 abbrev pub entry : JournalEntry → Entry
-entry (Take call front request) = taken call front (plain request)
+entry (Take call front request) = taken call front (without_spare request)
 entry (Done call front how uses fill) = done call front how uses.items fill
 entry (Tick front seconds) = ticked front seconds
 

@@ -1,0 +1,178 @@
+-- Each call under way sees what it saw at its take, whatever is taken and done meanwhile.
+use Rattle.std.proofs.Common.{◌≡◌, ◌≢◌, ℕ, zero, suc, Bool, true, false, List, [], ◌∷◌, Option, Some, None, refl, sym, ap, subst, ◌∙◌}
+use Rattle.std.specs.Prelude.{if◌then◌else◌, not, ◌&&◌, is_some, slice_get}
+use Rattle.std.specs.List.{AllByRecursion}
+use Rattle.claim_spec.proofs.Apart.{AreApart-swap}
+use Rattle.claim_spec.specs.Conflicts.{AreApart}
+use Rattle.claim_spec.specs.declared.claim.Claim.{Claim}
+use Rattle.fuse_replies.specs.Errno.{eproto}
+use Rattle.fuse_requests.specs.declared.request.Request.{Request}
+use Rattle.fuse_requests.specs.declared.request.Request.TheVariants.{Init, Unknown}
+use Rattle.mount_model.specs.Observing.{Observed}
+use Rattle.mount_model.specs.declared.config.Config.{Config}
+use Rattle.mount_rules.specs.Dispatch.{claims, goes_on, is_init, is_silent, mount_after, plan, rules_of, view_in}
+use Rattle.mount_rules.specs.Mount.{IsMount, MountModel, first_mount}
+use Rattle.mount_rules.specs.Overlap.{ApartFromAll, HappenFrom, MayHappen, OpenCall, OpenCallsSee, SeesAsTaken, Shared, Turn, after_done, after_turn, after_turns, at_once, done, others_than, take, tick}
+use Rattle.mount_rules.specs.Plans as plans
+use Rattle.mount_rules.specs.Plans.{Plan, Step}
+use Rattle.mount_rules.specs.View.{View}
+use Rattle.mount_laws.proofs.Mounts.{IsMount-first}
+use Rattle.mount_laws.proofs.RequestLaws.{agreement_stays, claims_protect, stays_mount}
+
+-- whether a request goes on, by the agreement on a version and its own refusal
+abbrev goes_with : Bool → Request → Option ℕ → Bool
+goes_with agreed request refusal =
+    not (is_silent request && not agreed) && not (is_some (if not agreed && not (is_silent request) && not (is_init request) then Some eproto else refusal))
+
+abbrev quiet : Plan
+quiet = λ answers. plans.done
+
+abbrev refusal_of : Request → View → Option ℕ
+refusal_of request view = (rules_of request).refusal view
+
+abbrev plan_by : Config → ℕ → Request → Bool → View → Step
+plan_by config second request on view = (if on then (rules_of request).plan (record { config = config; second = second; view = view }) else quiet) []
+
+abbrev claims_by : Request → Bool → View → List Claim
+claims_by request on view = if on then (rules_of request).claims view else []
+
+-- before a version is agreed on, no request asks anything
+no_plan : (config : Config) (second : ℕ) (mount : MountModel) (request : Request) → mount.negotiated ≡ false → plan config second mount request [] ≡ plans.done
+no_plan config second mount request off = ap (λ b. plan_by config second request b (view_in mount request)) (ap (λ b. goes_with b request (refusal_of request (view_in mount request))) off) ∙ by request
+  where
+    both : (on : Bool) → (if on then quiet else quiet) [] ≡ plans.done
+    both true = refl
+    both false = refl
+
+    by : (r : Request) → plan_by config second r (goes_with false r (refusal_of r (view_in mount request))) (view_in mount request) ≡ plans.done
+    by (Init major minor readahead flags) = both (goes_with false (Init major minor readahead flags) (refusal_of (Init major minor readahead flags) (view_in mount request)))
+    by (Unknown opcode) = both (goes_with false (Unknown opcode) (refusal_of (Unknown opcode) (view_in mount request)))
+    by _ = refl
+
+agreed_by : (config : Config) (second : ℕ) (mount : MountModel) (request : Request) → plan config second mount request [] ≢ plans.done → mount.negotiated ≡ true
+agreed_by config second mount request asks = by mount.negotiated refl
+  where
+    by : (agreed : Bool) → mount.negotiated ≡ agreed → agreed ≡ true
+    by true is = refl
+    by false is = absurd (asks (no_plan config second mount request is))
+
+-- ---- one call under way
+record IsGoing (config : Config) (mount : MountModel) (o : OpenCall) : Type 0 where
+  sees : SeesAsTaken config mount o
+  asks : plan config o.second mount o.request [] ≢ plans.done
+
+-- another call that is done, and whose claims don't conflict, leaves it so
+IsGoing-after : (config : Config) (mount : MountModel) (o : OpenCall) → IsMount mount → IsGoing config mount o
+    → (second : ℕ) (request : Request) (seen : List Observed) → AreApart o.claimed (claims mount request) → IsGoing config (mount_after config second mount request seen) o
+IsGoing-after config mount o is going second request seen apart = record {
+  sees = record { view = same ∙ going.sees.view; goes = goes ∙ going.sees.goes; claimed = same_claims ∙ going.sees.claimed };
+  asks = λ none. going.asks (sym same_plan ∙ none);
+}
+  where
+    after : MountModel
+    after = mount_after config second mount request seen
+
+    same : view_in (mount_after config second mount request seen) o.request ≡ view_in mount o.request
+    same = claims_protect config second o.second mount o.request request seen is going.asks (subst (λ c. AreApart c (claims mount request)) (sym going.sees.claimed) apart)
+
+    before_agreed : mount.negotiated ≡ true
+    before_agreed = agreed_by config o.second mount o.request going.asks
+
+    goes : goes_on (mount_after config second mount request seen) o.request ≡ goes_on mount o.request
+    goes = ap (λ b. goes_with b o.request (refusal_of o.request (view_in (mount_after config second mount request seen) o.request)))
+        (agreement_stays config second mount request seen before_agreed ∙ sym before_agreed)
+        ∙ ap (λ v. goes_with mount.negotiated o.request (refusal_of o.request v)) same
+
+    same_claims : claims (mount_after config second mount request seen) o.request ≡ claims mount o.request
+    same_claims = ap (λ b. claims_by o.request b (view_in (mount_after config second mount request seen) o.request)) goes ∙ ap (claims_by o.request (goes_on mount o.request)) same
+
+    same_plan : plan config o.second (mount_after config second mount request seen) o.request [] ≡ plan config o.second mount o.request []
+    same_plan = ap (λ b. plan_by config o.second o.request b (view_in (mount_after config second mount request seen) o.request)) goes
+        ∙ ap (plan_by config o.second o.request (goes_on mount o.request)) same
+
+-- ---- all calls under way
+abbrev AllApart : List OpenCall → Type 0
+AllApart [] = Unit {0}
+AllApart (o ∷ more) = ApartFromAll o.claimed more × AllApart more
+
+record IsUnderWay (config : Config) (shared : Shared) : Type 0 where
+  is : IsMount shared.mount
+  each : AllByRecursion (IsGoing config shared.mount) shared.open_calls
+  apart : AllApart shared.open_calls
+
+-- what holds of all holds of all but one
+module _ (P : OpenCall → Type 0) where
+  all_but : (place : ℕ) (os : List OpenCall) → AllByRecursion P os → AllByRecursion P (others_than place os)
+  all_but zero [] all = all
+  all_but (suc place) [] all = all
+  all_but zero (o ∷ os) all = all.1
+  all_but (suc place) (o ∷ os) all = (all.0, all_but place os all.1)
+
+  at_place : (place : ℕ) (os : List OpenCall) (o : OpenCall) → slice_get os place ≡ Some o → AllByRecursion P os → P o
+  at_place place [] o is all = absurd (let never : None ≡ Some o = is in cc)
+  at_place zero (p ∷ os) o is all = let same : p ≡ o = cc in subst P same all.0
+  at_place (suc place) (p ∷ os) o is all = at_place place os o is all.1
+
+apart_but : (place : ℕ) (os : List OpenCall) → AllApart os → AllApart (others_than place os)
+apart_but zero [] apart = apart
+apart_but (suc place) [] apart = apart
+apart_but zero (o ∷ os) apart = apart.1
+apart_but (suc place) (o ∷ os) apart = (all_but (λ (q : OpenCall). AreApart o.claimed q.claimed) place os apart.0, apart_but place os apart.1)
+
+-- the call at a place is apart from all others
+apart_from_others : (place : ℕ) (os : List OpenCall) (o : OpenCall) → slice_get os place ≡ Some o → AllApart os → ApartFromAll o.claimed (others_than place os)
+apart_from_others place [] o is apart = absurd (let never : None ≡ Some o = is in cc)
+apart_from_others zero (p ∷ os) o is apart = let same : p ≡ o = cc in subst (λ (q : OpenCall). ApartFromAll q.claimed os) same apart.0
+apart_from_others (suc place) (p ∷ os) o is apart =
+    (AreApart-swap p.claimed o.claimed (at_place (λ (q : OpenCall). AreApart p.claimed q.claimed) place os o is apart.0), apart_from_others place os o is apart.1)
+
+-- a call that is done leaves all that are apart from it
+all_going : (config : Config) (mount : MountModel) → IsMount mount → (second : ℕ) (request : Request) (seen : List Observed) (os : List OpenCall)
+    → ApartFromAll (claims mount request) os → AllByRecursion (IsGoing config mount) os → AllByRecursion (IsGoing config (mount_after config second mount request seen)) os
+all_going config mount is second request seen [] apart going = tt
+all_going config mount is second request seen (o ∷ os) apart going = (
+  IsGoing-after config mount o is going.0 second request seen (AreApart-swap (claims mount request) o.claimed apart.0),
+  all_going config mount is second request seen os apart.1 going.1,
+)
+
+IsUnderWay-turn : (config : Config) (shared : Shared) (turn : Turn) → IsUnderWay config shared → MayHappen config shared turn → IsUnderWay config (after_turn config shared turn)
+IsUnderWay-turn config shared (take second request) way may = record {
+  is = way.is;
+  each = (record { sees = record { view = refl; goes = goes_by (goes_on shared.mount request) refl may.0; claimed = refl }; asks = may.0 }, way.each);
+  apart = (may.1, way.apart);
+}
+  where
+    goes_by : (on : Bool) → goes_on shared.mount request ≡ on → (plan_by config second request on (view_in shared.mount request) ≢ plans.done) → on ≡ true
+    goes_by true is asks = refl
+    goes_by false is asks = absurd (asks refl)
+IsUnderWay-turn config shared (done place seen) way (o, there) =
+    subst (λ (found : Option OpenCall). IsUnderWay config (after_done config shared place seen found)) (sym there) (record {
+      is = stays_mount config o.second shared.mount o.request seen way.is;
+      each = all_going config shared.mount way.is o.second o.request seen (others_than place shared.open_calls)
+          (subst (λ c. ApartFromAll c (others_than place shared.open_calls)) (sym going.sees.claimed) (apart_from_others place shared.open_calls o there way.apart))
+          (all_but (IsGoing config shared.mount) place shared.open_calls way.each);
+      apart = apart_but place shared.open_calls way.apart;
+    })
+  where
+    going : IsGoing config shared.mount o
+    going = at_place (IsGoing config shared.mount) place shared.open_calls o there way.each
+IsUnderWay-turn config shared (at_once second request) way may = record {
+  is = stays_mount config second shared.mount request [] way.is;
+  each = all_going config shared.mount way.is second request [] shared.open_calls may way.each;
+  apart = way.apart;
+}
+IsUnderWay-turn config shared (tick seconds) way may = way
+
+IsUnderWay-turns : (config : Config) (shared : Shared) (turns : List Turn) → IsUnderWay config shared → HappenFrom config shared turns → IsUnderWay config (after_turns config shared turns)
+IsUnderWay-turns config shared [] way happen = way
+IsUnderWay-turns config shared (turn ∷ turns) way happen =
+    IsUnderWay-turns config (after_turn config shared turn) turns (IsUnderWay-turn config shared turn way happen.0) happen.1
+
+all_see : (config : Config) (mount : MountModel) (os : List OpenCall) → AllByRecursion (IsGoing config mount) os → AllByRecursion (SeesAsTaken config mount) os
+all_see config mount [] going = tt
+all_see config mount (o ∷ os) going = (going.0.sees, all_see config mount os going.1)
+
+pub open_calls_see : OpenCallsSee
+open_calls_see config turns happen =
+    let way = IsUnderWay-turns config (record { mount = first_mount; open_calls = [] }) turns (record { is = IsMount-first; each = tt; apart = tt }) happen in
+    all_see config _ _ way.each

@@ -1,0 +1,243 @@
+-- Every request's rules are sound, one line each; and the laws over all requests that follow.
+use Rattle.std.proofs.Common.{◌≡◌, ◌≢◌, ◌+◌, ◌-◌, ℕ, Bool, true, false, List, [], Option, Some, None, refl, sym, ap, ◌∙◌, arith, ◌≤◌, length}
+use Rattle.std.proofs.lemmas.Bool.{false≢true}
+use Rattle.std.specs.Prelude.{if◌then◌else◌, not, ◌&&◌, ◌==◌, is_some}
+use Rattle.std.specs.List.{AllByRecursion}
+use Rattle.std.specs.Option.{option_map_or}
+use Rattle.claim_spec.specs.Conflicts.{AreApart}
+use Rattle.fuse_replies.specs.declared.reply.Reply.{Reply}
+use Rattle.fuse_replies.specs.declared.reply.Reply.TheVariants.{Error, Silent}
+use Rattle.fuse_requests.specs.declared.request.Request.{Request}
+use Rattle.fuse_requests.specs.declared.request.Request.TheVariants.{Lookup, Forget, BatchForget, Interrupt, Init, Statfs, Opendir, Readdir, Releasedir, Fsyncdir, Create, Destroy, Unknown}
+use Rattle.inode_spec.specs.Inodes.{lookups_of}
+use Rattle.mount_model.specs.declared.config.Config.{Config}
+use Rattle.mount_rules.specs.Dispatch.{early, goes_on, is_among, is_idle, is_init, is_silent, mount_after, plan, claims, reply_to, rules_of, served_opcodes, silent_opcodes, taken_at, unread, view_in, wants}
+use Rattle.fuse_replies.specs.Errno.{einval, enomem, enosys, eproto}
+use Rattle.mount_rules.specs.Laws.{AsksAtMost, ClaimsCover, ClaimsProtect, GivesLater, HarmlessWhileAsking, IsCovered, Keeps, LeavesOthers, NeverOutOfMemory, Planned, StaysMount, given, given_back, most_asked}
+use Rattle.mount_rules.specs.Mount.{IsMount, MountModel}
+use Rattle.mount_model.specs.Observing.{Observed}
+use Rattle.mount_rules.specs.Plans.{Allows, IsHarmless, Plan, Source, answers_of, done}
+use Rattle.mount_rules.specs.Rules.{Taken}
+use Rattle.mount_laws.proofs.Asking.{asks_none}
+use Rattle.mount_laws.proofs.Guarding.{errors_differ}
+use Rattle.mount_laws.proofs.Keeping.{Keeps-same, no_Some}
+use Rattle.mount_laws.proofs.Mounts.{GivesLater-same}
+use Rattle.mount_laws.proofs.Requests.Create.{create_sound}
+use Rattle.mount_laws.proofs.Requests.Forget.{forget_sound}
+use Rattle.mount_laws.proofs.Requests.Fsyncdir.{fsyncdir_sound}
+use Rattle.mount_laws.proofs.Requests.Init.{init_sound}
+use Rattle.mount_laws.proofs.Requests.Lookup.{lookup_sound}
+use Rattle.mount_laws.proofs.Requests.Opendir.{opendir_sound}
+use Rattle.mount_laws.proofs.Requests.Readdir.{readdir_sound}
+use Rattle.mount_laws.proofs.Requests.Releasedir.{releasedir_sound}
+use Rattle.mount_laws.proofs.Requests.Statfs.{destroy_sound, statfs_sound}
+use Rattle.mount_laws.proofs.Requests.Unserved.{unserved_sound}
+use Rattle.mount_laws.proofs.Sights.{view_stays}
+use Rattle.mount_laws.proofs.Sound.{GoesOn, IsSound}
+
+-- the look-ups of a node that a request gives back
+abbrev pub back_by : Request → ℕ → ℕ
+back_by (Forget node count) number = if number == node then count else 0
+back_by _ number = 0
+
+unread-other : (opcode : ℕ) → unread opcode ≢ Some enomem
+unread-other opcode = by (is_among silent_opcodes opcode) (is_among served_opcodes opcode)
+  where
+    by : (silent served : Bool) → (if silent then None else if served then Some einval else Some enosys) ≡ Some enomem → ⊥
+    by true served e = cc
+    by false true e = errors_differ (λ same. absurd (omega (arith, same))) e
+    by false false e = errors_differ (λ same. absurd (omega (arith, same))) e
+
+not_served : Some enosys ≢ Some enomem
+not_served e = errors_differ (λ same. absurd (omega (arith, same))) e
+
+no_error : None ≢ Some enomem
+no_error e = cc
+
+pub sound : (request : Request) → IsSound (rules_of request) (back_by request) (most_asked request)
+sound (Lookup node name) = lookup_sound node name
+sound (Forget node count) = forget_sound node count
+sound Statfs = statfs_sound
+sound (Init major minor readahead flags) = init_sound major minor readahead flags
+sound (Opendir node) = opendir_sound node
+sound (Readdir node fh first size) = readdir_sound node fh first size
+sound (Releasedir node fh) = releasedir_sound node fh
+sound (Fsyncdir node fh) = fsyncdir_sound node fh
+sound (Create node name) = create_sound node name
+sound Destroy = destroy_sound
+sound Interrupt = unserved_sound None no_error
+sound (BatchForget pairs) = unserved_sound None no_error
+sound (Unknown opcode) = unserved_sound (unread opcode) (unread-other opcode)
+sound _ = unserved_sound (Some enosys) not_served
+
+-- ---- the dispatcher
+-- a request goes on where its own rules refuse nothing
+goes : (mount : MountModel) (request : Request) → IsMount mount → goes_on mount request ≡ true → GoesOn (rules_of request) mount
+goes mount request is on = record { is = is; free = free }
+  where
+    none : (idle : Bool) (errno : Option ℕ) → (not idle && not (is_some errno)) ≡ true → errno ≡ None
+    none true errno e = absurd (false≢true e)
+    none false None e = refl
+    none false (Some errno) e = absurd (false≢true e)
+
+    inner : (unheard : Bool) (refusal : Option ℕ) → (if unheard then Some eproto else refusal) ≡ None → refusal ≡ None
+    inner true refusal e = absurd (let never : Some eproto ≡ None = e in cc)
+    inner false refusal e = e
+
+    free : (rules_of request).refusal (view_in mount request) ≡ None
+    free = inner (not mount.negotiated && not (is_silent request) && not (is_init request)) _ (none (is_idle mount request) (early mount request) on)
+
+module _ (config : Config) (second : ℕ) (mount : MountModel) (request : Request) (seen : List Observed) (is : IsMount mount) where
+  abbrev after : MountModel
+  after = (rules_of request).after (taken_at config second mount request) mount seen
+
+  pub later : GivesLater mount (mount_after config second mount request seen)
+  later = by (goes_on mount request) refl
+    where
+      by : (on : Bool) → goes_on mount request ≡ on → GivesLater mount (if on then after else mount)
+      by true e = (sound request).later config second mount seen (goes mount request is e)
+      by false e = GivesLater-same mount is
+
+  pub leaves : Keeps (claims mount request) mount (mount_after config second mount request seen)
+  leaves = by (goes_on mount request) refl
+    where
+      by : (on : Bool) → goes_on mount request ≡ on → Keeps (if on then (rules_of request).claims (view_in mount request) else []) mount (if on then after else mount)
+      by true e = (sound request).leaves config second mount seen (goes mount request is e)
+      by false e = Keeps-same [] mount
+
+-- an agreement on a version stays
+pub agreement_stays : (config : Config) (second : ℕ) (mount : MountModel) (request : Request) (seen : List Observed) → mount.negotiated ≡ true
+    → (mount_after config second mount request seen).negotiated ≡ true
+agreement_stays config second mount request seen agreed = by (goes_on mount request)
+  where
+    by : (on : Bool) → (if on then (rules_of request).after (taken_at config second mount request) mount seen else mount).negotiated ≡ true
+    by true = (sound request).agrees (taken_at config second mount request) mount seen agreed
+    by false = agreed
+
+pub stays_mount : StaysMount
+stays_mount config second mount request seen is = (later config second mount request seen is).is
+
+pub leaves_others : LeavesOthers
+leaves_others config second mount request seen is = leaves config second mount request seen is
+
+-- the law of claims
+pub claims_protect : ClaimsProtect
+claims_protect config second mine mount request other seen is asks apart = by (goes_on mount request) refl asks apart
+  where
+    by : (on : Bool) → goes_on mount request ≡ on
+        → ((if on then (rules_of request).plan (taken_at config mine mount request) else (λ answers. done)) [] ≢ done)
+        → AreApart (if on then (rules_of request).claims (view_in mount request) else []) (claims mount other)
+        → view_in (mount_after config second mount other seen) request ≡ view_in mount request
+    by true e asks apart =
+        view_stays ((rules_of request).claims (view_in mount request)) (claims mount other) mount (mount_after config second mount other seen) apart
+        (leaves config second mount other seen is) (rules_of request).looks
+        ((sound request).sees config mine mount (goes mount request is e) asks)
+    by false e asks apart = absurd (asks refl)
+
+pub claims_cover : ClaimsCover
+claims_cover config second mount request seen op allows = by (goes_on mount request) allows
+  where
+    by : (on : Bool) → Allows ((if on then (rules_of request).plan (taken_at config second mount request) else (λ answers. done)) (answers_of seen)) op
+        → IsCovered (if on then (rules_of request).claims (view_in mount request) else []) op
+    by true allows = (sound request).covers (taken_at config second mount request) (answers_of seen) op allows
+    by false allows = absurd allows
+
+pub harmless_while_asking : HarmlessWhileAsking
+harmless_while_asking config second mount request seen = by (goes_on mount request)
+  where
+    by : (on : Bool) → Planned (if on then (rules_of request).plan (taken_at config second mount request) else (λ answers. done)) seen
+        → ((if on then (rules_of request).plan (taken_at config second mount request) else (λ answers. done)) (answers_of seen) ≢ done)
+        → AllByRecursion (λ (o : Observed). IsHarmless o.op) seen
+    by true planned asks = (sound request).harmless (taken_at config second mount request) seen planned asks
+    by false planned asks = absurd (asks refl)
+
+pub asks_at_most : AsksAtMost
+asks_at_most config second mount request seen most is = by (goes_on mount request)
+  where
+    by : (on : Bool) → Planned (if on then (rules_of request).plan (taken_at config second mount request) else (λ answers. done)) seen → length seen ≤ most
+    by true planned = (sound request).bounded (taken_at config second mount request) seen most is planned
+    by false planned = let few : length seen ≤ 0 = asks_none (λ answers. done) refl seen planned in omega (arith, few)
+
+-- no request that is performed to its end is answered ENOMEM
+pub never_out_of_memory : NeverOutOfMemory
+never_out_of_memory config second mount request seen = by (is_idle mount request) (early mount request) refl
+  where
+    silent : Silent ≡ Error enomem → ⊥
+    silent e = cc
+
+    refused : (unheard : Bool) (errno : ℕ) → (if unheard then Some eproto else (rules_of request).refusal (view_in mount request)) ≡ Some errno → errno ≡ enomem → ⊥
+    refused true errno e same = errors_differ (λ one. absurd (omega (arith, one))) (e ∙ ap Some same)
+    refused false errno e same = (sound request).refuses (view_in mount request) (e ∙ ap Some same)
+
+    by : (idle : Bool) (errno : Option ℕ) → early mount request ≡ errno
+        → (if idle then Silent else option_map_or Error errno ((rules_of request).reply (taken_at config second mount request) mount seen)) ≡ Error enomem → ⊥
+    by true errno is e = silent e
+    by false None is e = (sound request).answers (taken_at config second mount request) mount seen e
+    by false (Some errno) is e = refused (not mount.negotiated && not (is_silent request) && not (is_init request)) errno is (let one : errno ≡ enomem = cc in one)
+
+-- ---- counts of look-ups
+-- where a request goes on, the look-ups that it gives back are those of its rules
+back_on : (mount : MountModel) (request : Request) (number : ℕ) → goes_on mount request ≡ true → given_back mount request number ≡ back_by request number
+back_on mount (Forget node count) number on = by mount.negotiated on
+  where
+    by : (agreed : Bool) → (not (not agreed) && not (is_some (if not agreed && not true && not false then Some eproto else None))) ≡ true
+        → (if agreed then (if number == node then count else 0) else 0) ≡ (if number == node then count else 0)
+    by true e = refl
+    by false e = absurd (false≢true e)
+back_on mount _ number on = refl
+
+-- where it doesn't, there are none
+back_off : (mount : MountModel) (request : Request) (number : ℕ) → goes_on mount request ≡ false → given_back mount request number ≡ 0
+back_off mount (Forget node count) number off = by mount.negotiated off
+  where
+    by : (agreed : Bool) → (not (not agreed) && not (is_some (if not agreed && not true && not false then Some eproto else None))) ≡ false
+        → (if agreed then (if number == node then count else 0) else 0) ≡ 0
+    by true e = absurd (false≢true (sym e))
+    by false e = refl
+back_off mount _ number off = refl
+
+pub counts : (config : Config) (second : ℕ) (mount : MountModel) (request : Request) (seen : List Observed) (number : ℕ) → IsMount mount → number ≢ 1
+    → lookups_of (mount_after config second mount request seen).table number
+    ≡ (lookups_of mount.table number + given (reply_to config second mount request seen) number) - given_back mount request number
+counts config second mount request seen number is other = by (is_idle mount request) (early mount request) refl refl
+  where
+    taken : Taken
+    taken = taken_at config second mount request
+
+    stays : (reply : Reply) → given reply number ≡ 0 → given_back mount request number ≡ 0
+        → lookups_of mount.table number ≡ (lookups_of mount.table number + given reply number) - given_back mount request number
+    stays reply none kept = omega (arith, none, kept)
+
+    goes_by : (idle : Bool) (errno : Option ℕ) → is_idle mount request ≡ idle → early mount request ≡ errno → goes_on mount request ≡ (not idle && not (is_some errno))
+    goes_by idle errno i e = ap (λ b. not b && not (is_some (early mount request))) i ∙ ap (λ o. not idle && not (is_some o)) e
+
+    by : (idle : Bool) (errno : Option ℕ) → is_idle mount request ≡ idle → early mount request ≡ errno
+        → lookups_of (if not idle && not (is_some errno) then (rules_of request).after taken mount seen else mount).table number
+        ≡ (lookups_of mount.table number + given (if idle then Silent else option_map_or Error errno ((rules_of request).reply taken mount seen)) number) - given_back mount request number
+    by true errno i e = stays Silent refl (back_off mount request number (goes_by true errno i e))
+    by false (Some errno) i e = stays (Error errno) refl (back_off mount request number (goes_by false (Some errno) i e))
+    by false None i e =
+        let on = goes_by false None i e in
+        let same = back_on mount request number on in
+        let one = (sound request).counts config second mount seen number other (goes mount request is on) in
+        one ∙ ap (λ n. (lookups_of mount.table number + given ((rules_of request).reply taken mount seen) number) - n) (sym same)
+
+-- a request that asks something, or wants a byte of a source, gives nothing back
+pub back_asks : (config : Config) (second : ℕ) (mount : MountModel) (request : Request) (number : ℕ) → plan config second mount request [] ≢ done → given_back mount request number ≡ 0
+back_asks config second mount (Forget node count) number asks = by (goes_on mount (Forget node count)) asks
+  where
+    quiet : Plan
+    quiet = λ answers. done
+
+    by : (on : Bool) → ((if on then quiet else quiet) [] ≢ done) → given_back mount (Forget node count) number ≡ 0
+    by true asks = absurd (asks refl)
+    by false asks = absurd (asks refl)
+back_asks config second mount _ number asks = refl
+
+pub back_wants : (mount : MountModel) (request : Request) (source : Source) (number : ℕ) → wants mount request ≡ Some source → given_back mount request number ≡ 0
+back_wants mount (Forget node count) source number wanted = by (goes_on mount (Forget node count)) wanted
+  where
+    by : (on : Bool) → (if on then None else None) ≡ Some source → given_back mount (Forget node count) number ≡ 0
+    by true e = absurd (no_Some e)
+    by false e = absurd (no_Some e)
+back_wants mount _ source number wanted = refl

@@ -1,0 +1,99 @@
+-- CREATE.
+use Rattle.std.proofs.Common.{◌≡◌, ◌≢◌, ◌+◌, ◌-◌, ℕ, true, List, [], ◌∷◌, Option, Some, None, refl, sym, ap, subst, arith, inl, inr, ◌≤◌, length}
+use Rattle.std.specs.FinMap as fin
+use Rattle.std.specs.List.{AllByRecursion}
+use Rattle.bucket_api.specs.declared.answers.Answer.{Answer}
+use Rattle.bucket_api.specs.Operation.{Operation}
+use Rattle.claim_spec.specs.Conflicts.{IsClaimed}
+use Rattle.claim_spec.specs.declared.claim.Claim.{Claim}
+use Rattle.claim_spec.specs.declared.claim.ClaimKey.TheVariants as key
+use Rattle.fuse_replies.specs.declared.reply.Reply.TheVariants.{Error}
+use Rattle.inode_spec.specs.Inodes.{granted, lookups_of}
+use Rattle.mount_model.specs.Observing.{Observed}
+use Rattle.mount_model.specs.declared.config.Config.{Config}
+use Rattle.object_names.specs.Paths.{IsPath}
+use Rattle.mount_rules.specs.Claiming.{owns_name, shares_node}
+use Rattle.fuse_replies.specs.Errno.{eexist, eio, enomem}
+use Rattle.mount_rules.specs.Guards.{part_refusal}
+use Rattle.mount_rules.specs.Laws.{GivesLater, IsCovered, Keeps, Planned, given}
+use Rattle.mount_rules.specs.Mount.{IsMount, MountModel, Node}
+use Rattle.mount_rules.specs.Plans.{Allows, IsHarmless, answers_of, done}
+use Rattle.mount_rules.specs.Requests.Create as create
+use Rattle.mount_rules.specs.Making as making
+use Rattle.mount_rules.specs.Making.{Made, new, exists, fault}
+use Rattle.mount_rules.specs.Showing.{new_node}
+use Rattle.mount_laws.proofs.Children.{HasPath-none, IsNameOf-object}
+use Rattle.mount_laws.proofs.Counting.{count_of, counts_more}
+use Rattle.mount_laws.proofs.Guarding.{in_directory-memory, part_refusal-memory}
+use Rattle.mount_laws.proofs.Keeping.{Keeps-opened, Keeps-same, TableKeeps-granted}
+use Rattle.mount_laws.proofs.Mounts.{GivesLater-opened, GivesLater-same, GivesLater-table, GivesLater-then, IsNodeTable-of, TableLater-granted}
+use Rattle.mount_laws.proofs.Sights.{LooksClaimed-node}
+use Rattle.mount_laws.proofs.Sound.{IsSound}
+
+module _ (mount : MountModel) (is : IsMount mount) (path : List ℕ) (moment : ℕ) where
+  later : IsPath path → (came : Made) → GivesLater mount (create.mount_after mount path moment came)
+  later path_is (new meta) =
+      let table = GivesLater-table mount is _ (TableLater-granted mount.table (IsNodeTable-of mount is) (new_node path meta moment) (IsNameOf-object meta path path_is) (omega arith)) in
+      GivesLater-then table (GivesLater-opened _ table.is (record { node = mount.table.next; items = None }))
+  later path_is exists = GivesLater-same mount is
+  later path_is fault = GivesLater-same mount is
+
+  leaves : (claimed : List Claim) → IsClaimed claimed (key.Name path) → (came : Made) → Keeps claimed mount (create.mount_after mount path moment came)
+  leaves claimed name (new meta) =
+      Keeps-opened claimed mount is (granted mount.table (new_node path meta moment)) (TableKeeps-granted claimed mount.table (new_node path meta moment) is.nodes name)
+      (record { node = mount.table.next; items = None })
+  leaves claimed name exists = Keeps-same claimed mount
+  leaves claimed name fault = Keeps-same claimed mount
+
+  counts : (config : Config) (number : ℕ) (came : Made)
+      → lookups_of (create.mount_after mount path moment came).table number ≡ (lookups_of mount.table number + given (create.reply_to config mount path moment came) number) - 0
+  counts config number (new meta) = counts_more mount.table number mount.table.next (new_node path meta moment) (ap (λ n. n + 1) (sym none))
+    where
+      unused : (found : Option Node) → fin.get mount.table.nodes mount.table.next ≡ found → count_of found ≡ 0
+      unused None e = refl
+      unused (Some node) e = let low = is.nodes mount.table.next node e in absurd (omega (arith, low))
+
+      none : lookups_of mount.table mount.table.next ≡ 0
+      none = unused (fin.get mount.table.nodes mount.table.next) refl
+  counts config number exists = omega arith
+  counts config number fault = omega arith
+
+answers : (config : Config) (mount : MountModel) (path : List ℕ) (moment : ℕ) (came : Made) → create.reply_to config mount path moment came ≡ Error enomem → ⊥
+answers config mount path moment (new meta) e = cc
+answers config mount path moment exists e = let same : eexist ≡ enomem = cc in absurd (omega (arith, same))
+answers config mount path moment fault e = let same : eio ≡ enomem = cc in absurd (omega (arith, same))
+
+agrees : (mount : MountModel) (path : List ℕ) (moment : ℕ) → mount.negotiated ≡ true → (came : Made) → (create.mount_after mount path moment came).negotiated ≡ true
+agrees mount path moment agreed (new meta) = agreed
+agrees mount path moment agreed exists = agreed
+agrees mount path moment agreed fault = agreed
+
+-- the one operation is the insert of the path
+covers : (path : List ℕ) (second : ℕ) (answers : List Answer) (node : ℕ) (op : Operation) → Allows (making.plan path [] second answers) op
+    → IsCovered (shares_node node ∷ owns_name path ∷ []) op
+covers path second [] node op allows = subst (IsCovered (shares_node node ∷ owns_name path ∷ [])) (sym allows) (inr (inl (refl, refl)))
+covers path second (a ∷ more) node op allows = absurd allows
+
+-- once the insert is made, nothing is asked
+harmless : (path : List ℕ) (second : ℕ) (seen : List Observed) → making.plan path [] second (answers_of seen) ≢ done → AllByRecursion (λ (o : Observed). IsHarmless o.op) seen
+harmless path second [] asks = tt
+harmless path second (o ∷ more) asks = absurd (asks refl)
+
+asks_one : (path : List ℕ) (second : ℕ) (seen : List Observed) → Planned (making.plan path [] second) seen → length seen ≤ 1
+asks_one path second [] planned = omega arith
+asks_one path second (o ∷ []) planned = omega arith
+asks_one path second (o ∷ p ∷ more) planned = absurd planned.1.0
+
+pub create_sound : (node : ℕ) (name : List ℕ) → IsSound (create.rules node name) (λ number. 0) (Some 1)
+create_sound node name = record {
+  later = λ config second mount seen goes. later mount goes.is _ _ (HasPath-none mount node name goes.is goes.free).is_path (making.made (answers_of seen));
+  leaves = λ config second mount seen goes. leaves mount goes.is _ _ _ (inr (inl refl)) (making.made (answers_of seen));
+  sees = λ config second mount goes asks. let has = HasPath-none mount node name goes.is goes.free in LooksClaimed-node _ mount node has.sight has.seen (inl refl);
+  covers = λ taken answers op allows. covers (create.path_of name taken.view) taken.second answers node op allows;
+  harmless = λ taken seen planned asks. harmless (create.path_of name taken.view) taken.second seen asks;
+  bounded = λ taken seen n is planned. let one : 1 ≡ n = cc in subst (λ m. length seen ≤ m) one (asks_one (create.path_of name taken.view) taken.second seen planned);
+  agrees = λ taken mount seen agreed. agrees mount _ _ agreed (making.made (answers_of seen));
+  refuses = λ view. in_directory-memory view.node (part_refusal name) (part_refusal-memory name);
+  answers = λ taken mount seen. answers taken.config mount (create.path_of name taken.view) _ (making.made (answers_of seen));
+  counts = λ config second mount seen number other goes. counts mount goes.is _ _ config number (making.made (answers_of seen));
+}

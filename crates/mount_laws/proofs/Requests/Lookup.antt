@@ -1,0 +1,122 @@
+-- LOOKUP.
+use Rattle.std.proofs.Common.{◌≡◌, ◌+◌, ◌-◌, ℕ, Bool, true, false, List, [], ◌∷◌, Some, None, refl, sym, subst, arith, inl, inr, ◌≤◌, length}
+use Rattle.std.specs.Prelude.{if◌then◌else◌}
+use Rattle.bucket_api.specs.declared.answers.Answer.{Answer}
+use Rattle.bucket_api.specs.Operation.{Operation, stat, list}
+use Rattle.claim_spec.specs.Conflicts.{IsClaimed}
+use Rattle.claim_spec.specs.declared.claim.Claim.{Claim}
+use Rattle.claim_spec.specs.declared.claim.ClaimKey.TheVariants as key
+use Rattle.fuse_replies.specs.declared.reply.Reply.TheVariants.{Error}
+use Rattle.inode_spec.specs.Inodes.{lookups_of}
+use Rattle.mount_model.specs.declared.config.Config.{Config}
+use Rattle.object_names.specs.Paths.{IsPath, bare_name, dir_prefix_of, has_suffix}
+use Rattle.fuse_replies.specs.Errno.{eio, enoent, enomem}
+use Rattle.mount_rules.specs.Guards.{part_refusal}
+use Rattle.mount_model.specs.Observing.{Observed}
+use Rattle.mount_rules.specs.Laws.{IsCovered, Planned, given}
+use Rattle.mount_rules.specs.Mount.{MountModel, NodeTable}
+use Rattle.mount_rules.specs.Plans.{Allows, IsHarmless, answers_of}
+use Rattle.mount_rules.specs.Requests.Lookup as lookup
+use Rattle.mount_rules.specs.Requests.Lookup.{Found, directory, object, nothing, fault, Probed, present, absent, failed}
+use Rattle.mount_rules.specs.Showing.{directory_again, new_directory, new_node, object_again}
+use Rattle.mount_laws.proofs.Asking.{harmless_all}
+use Rattle.mount_laws.proofs.Children.{HasPath, HasPath-none, IsNameOf-object, IsPrefix-path}
+use Rattle.mount_laws.proofs.Guarding.{in_directory-memory, part_refusal-memory}
+use Rattle.mount_laws.proofs.Keeping.{Keeps-table, TableKeeps, TableKeeps-same}
+use Rattle.mount_laws.proofs.Mounts.{GivesLater-table, IsNodeTable, IsNodeTable-of, TableLater, TableLater-same}
+use Rattle.mount_laws.proofs.Showings.{ShownAgain-directory, ShownAgain-object, shown_counts, shown_keeps, shown_later}
+use Rattle.mount_laws.proofs.Sights.{LooksClaimed-node}
+use Rattle.mount_laws.proofs.Sound.{IsSound}
+
+-- the operation is the probe or the stat of the path
+asks_path : (implicit : Bool) (path : List ℕ) (suffixed : Bool) (answers : List Answer) (claimed : List Claim) (op : Operation)
+    → IsClaimed claimed (key.Name (dir_prefix_of path)) → IsClaimed claimed (key.Name path) → Allows (lookup.plan implicit path suffixed answers) op → IsCovered claimed op
+asks_path implicit path suffixed [] claimed op dir name allows = subst (IsCovered claimed) (sym allows) (by implicit)
+  where
+    by : (b : Bool) → IsCovered claimed (if b then list (dir_prefix_of path) false 1 None else stat (dir_prefix_of path))
+    by true = tt
+    by false = dir
+asks_path implicit path suffixed (a ∷ []) claimed op dir name allows = by (lookup.probed a) suffixed allows
+  where
+    by : (told : Probed) (s : Bool) → Allows (lookup.after_probe path s told) op → IsCovered claimed op
+    by present true allows = subst (IsCovered claimed) (sym allows) name
+    by present false allows = absurd allows
+    by absent true allows = absurd allows
+    by absent false allows = subst (IsCovered claimed) (sym allows) name
+    by failed s allows = absurd allows
+asks_path implicit path suffixed (a ∷ b ∷ more) claimed op dir name allows = absurd allows
+
+-- each of its operations is a list or a stat
+asks_harmless : (implicit : Bool) (path : List ℕ) (suffixed : Bool) (told : List Answer) (op : Operation) → Allows (lookup.plan implicit path suffixed told) op → IsHarmless op
+asks_harmless implicit path suffixed [] op allows = subst IsHarmless (sym allows) (by implicit)
+  where
+    by : (b : Bool) → IsHarmless (if b then list (dir_prefix_of path) false 1 None else stat (dir_prefix_of path))
+    by true = tt
+    by false = tt
+asks_harmless implicit path suffixed (a ∷ []) op allows = by (lookup.probed a) suffixed allows
+  where
+    by : (told : Probed) (s : Bool) → Allows (lookup.after_probe path s told) op → IsHarmless op
+    by present true allows = subst IsHarmless (sym allows) tt
+    by present false allows = absurd allows
+    by absent true allows = absurd allows
+    by absent false allows = subst IsHarmless (sym allows) tt
+    by failed s allows = absurd allows
+asks_harmless implicit path suffixed (a ∷ b ∷ more) op allows = absurd allows
+
+-- it asks two at most
+asks_two : (implicit : Bool) (path : List ℕ) (suffixed : Bool) (seen : List Observed) → Planned (lookup.plan implicit path suffixed) seen → length seen ≤ 2
+asks_two implicit path suffixed [] planned = omega arith
+asks_two implicit path suffixed (o ∷ []) planned = omega arith
+asks_two implicit path suffixed (o ∷ p ∷ []) planned = omega arith
+asks_two implicit path suffixed (o ∷ p ∷ q ∷ more) planned = absurd planned.1.1.0
+
+-- a look-up is answered by a node, or by one of two errors
+answers : (config : Config) (table : NodeTable) (path : List ℕ) (moment : ℕ) (found : Found) → lookup.reply_to config table path moment found ≡ Error enomem → ⊥
+answers config table path moment directory e = cc
+answers config table path moment (object meta) e = cc
+answers config table path moment nothing e = let same : enoent ≡ enomem = cc in absurd (omega (arith, same))
+answers config table path moment fault e = let same : eio ≡ enomem = cc in absurd (omega (arith, same))
+
+module _ (mount : MountModel) (node : ℕ) (part : List ℕ) (is : IsNodeTable mount.table) (has : HasPath mount node part) (path : List ℕ) (path_is : IsPath path) (moment : ℕ) where
+  later : (found : Found) → TableLater mount.table (lookup.table_after mount.table path moment found)
+  later directory = shown_later directory_again ShownAgain-directory mount.table (dir_prefix_of path) is (new_directory (dir_prefix_of path)) refl (IsPrefix-path path path_is) (omega arith)
+  later (object meta) = shown_later (object_again meta moment) (ShownAgain-object meta moment) mount.table path is (new_node path meta moment) refl (IsNameOf-object meta path path_is) (omega arith)
+  later nothing = TableLater-same mount.table is
+  later fault = TableLater-same mount.table is
+
+  leaves : (claimed : List Claim) → IsClaimed claimed (key.Name (dir_prefix_of path)) → IsClaimed claimed (key.Name path) → (found : Found)
+      → TableKeeps claimed mount.table (lookup.table_after mount.table path moment found)
+  leaves claimed dir name directory = shown_keeps directory_again ShownAgain-directory mount.table (dir_prefix_of path) is (new_directory (dir_prefix_of path)) refl claimed dir
+  leaves claimed dir name (object meta) = shown_keeps (object_again meta moment) (ShownAgain-object meta moment) mount.table path is (new_node path meta moment) refl claimed name
+  leaves claimed dir name nothing = TableKeeps-same claimed mount.table
+  leaves claimed dir name fault = TableKeeps-same claimed mount.table
+
+  counts : (config : Config) (number : ℕ) (found : Found)
+      → lookups_of (lookup.table_after mount.table path moment found) number ≡ (lookups_of mount.table number + given (lookup.reply_to config mount.table path moment found) number) - 0
+  counts config number directory = shown_counts directory_again ShownAgain-directory mount.table (dir_prefix_of path) is (new_directory (dir_prefix_of path)) refl refl number
+  counts config number (object meta) = shown_counts (object_again meta moment) (ShownAgain-object meta moment) mount.table path is (new_node path meta moment) refl refl number
+  counts config number nothing = omega arith
+  counts config number fault = omega arith
+
+pub lookup_sound : (node : ℕ) (name : List ℕ) → IsSound (lookup.rules node name) (λ number. 0) (Some 2)
+lookup_sound node name = record {
+  later = λ config second mount seen goes.
+      let has = HasPath-none mount node (bare_name name) goes.is goes.free in
+      GivesLater-table mount goes.is _ (later mount node (bare_name name) (IsNodeTable-of mount goes.is) has _ has.is_path _ (lookup.found (answers_of seen)));
+  leaves = λ config second mount seen goes.
+      let has = HasPath-none mount node (bare_name name) goes.is goes.free in
+      Keeps-table _ mount _ (leaves mount node (bare_name name) (IsNodeTable-of mount goes.is) has _ has.is_path _ _ (inr (inr (inl refl))) (inr (inl refl)) (lookup.found (answers_of seen)));
+  sees = λ config second mount goes asks.
+      let has = HasPath-none mount node (bare_name name) goes.is goes.free in
+      LooksClaimed-node _ mount node has.sight has.seen (inl refl);
+  covers = λ taken answers op allows.
+      asks_path taken.config.implicit_dirs (lookup.path_of name taken.view) (has_suffix name) answers (lookup.claims node name taken.view) op (inr (inr (inl refl))) (inr (inl refl)) allows;
+  harmless = λ taken seen planned asks. harmless_all _ (asks_harmless taken.config.implicit_dirs (lookup.path_of name taken.view) (has_suffix name)) seen planned;
+  bounded = λ taken seen n is planned. let two : 2 ≡ n = cc in subst (λ m. length seen ≤ m) two (asks_two taken.config.implicit_dirs (lookup.path_of name taken.view) (has_suffix name) seen planned);
+  agrees = λ taken mount seen agreed. agreed;
+  refuses = λ view. in_directory-memory view.node (part_refusal (bare_name name)) (part_refusal-memory (bare_name name));
+  answers = λ taken mount seen. answers taken.config mount.table (lookup.path_of name taken.view) _ (lookup.found (answers_of seen));
+  counts = λ config second mount seen number other goes.
+      let has = HasPath-none mount node (bare_name name) goes.is goes.free in
+      counts mount node (bare_name name) (IsNodeTable-of mount goes.is) has _ has.is_path _ config number (lookup.found (answers_of seen));
+}

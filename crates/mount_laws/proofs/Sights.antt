@@ -1,0 +1,77 @@
+-- A request sees the same after another call whose claims don't conflict with its own.
+use Rattle.std.proofs.Common.{◌≡◌, ℕ, List, [], Option, Some, None, refl, sym, ap, subst, ◌∙◌}
+use Rattle.std.specs.Prelude.{map, option_and_then}
+use Rattle.std.specs.FinMap as fin
+use Rattle.claim_spec.specs.Conflicts.{AreApart, IsClaimed, IsOwned}
+use Rattle.claim_spec.specs.declared.claim.Claim.{Claim}
+use Rattle.claim_spec.specs.declared.claim.ClaimKey.TheVariants as key
+use Rattle.handle_table.specs.Handles.{Opened}
+use Rattle.mount_rules.specs.Laws.{Keeps}
+use Rattle.mount_rules.specs.Mount.{MountModel}
+use Rattle.mount_rules.specs.Rules.{at_node}
+use Rattle.mount_rules.specs.View.{Looks, Sight, kept_at, old_at, sight_at, view_of}
+use Rattle.mount_laws.proofs.Keeping.{no_Some, same_Some}
+
+-- What a request looks at is there, and it claims what it looks at: the node and the second directory; the node of its
+-- handle; what is kept of a node only where it owns the node and its name; a name's current node with the name owned and
+-- that node claimed.
+pub record LooksClaimed (mine : List Claim) (mount : MountModel) (looks : Looks) : Type 0 where
+  pub node : (number : ℕ) → looks.node ≡ Some number → (sight : Sight) × (sight_at mount.table number ≡ Some sight) × IsClaimed mine (key.Node number)
+  pub directory : (number : ℕ) → looks.directory ≡ Some number → (sight : Sight) × (sight_at mount.table number ≡ Some sight) × IsClaimed mine (key.Node number)
+  pub handle : (fh : ℕ) → looks.handle ≡ Some fh → (handle : Opened) × (fin.get mount.handles fh ≡ Some handle) × IsClaimed mine (key.Node handle.node)
+  pub kept : (number : ℕ) → looks.kept ≡ Some number
+      → (sight : Sight) × (sight_at mount.table number ≡ Some sight) × IsOwned mine (key.Node number) × IsOwned mine (key.Name sight.name)
+  pub old : looks.old ≡ None
+  pub listed : looks.listed ≡ []
+
+module _ (mine others : List Claim) (mount after : MountModel) (apart : AreApart mine others) (keeps : Keeps others mount after) where
+  free : (number : ℕ) → IsClaimed mine (key.Node number) → IsOwned others (key.Node number) → ⊥
+  free number claimed owned = apart.others_alone (key.Node number) claimed owned
+
+  sight_stays : (looked : Option ℕ) → ((number : ℕ) → looked ≡ Some number → (sight : Sight) × (sight_at mount.table number ≡ Some sight) × IsClaimed mine (key.Node number))
+      → option_and_then (sight_at after.table) looked ≡ option_and_then (sight_at mount.table) looked
+  sight_stays None claims = refl
+  sight_stays (Some number) claims = let c = claims number refl in keeps.sights number c.0 c.1 (free number c.2) ∙ sym c.1
+
+  handle_stays : (looked : Option ℕ) → ((fh : ℕ) → looked ≡ Some fh → (handle : Opened) × (fin.get mount.handles fh ≡ Some handle) × IsClaimed mine (key.Node handle.node))
+      → option_and_then (fin.get after.handles) looked ≡ option_and_then (fin.get mount.handles) looked
+  handle_stays None claims = refl
+  handle_stays (Some fh) claims = let c = claims fh refl in keeps.handles fh c.0 c.1 (free c.0.node c.2) ∙ sym c.1
+
+  kept_stays : (looked : Option ℕ)
+      → ((number : ℕ) → looked ≡ Some number → (sight : Sight) × (sight_at mount.table number ≡ Some sight) × IsOwned mine (key.Node number) × IsOwned mine (key.Name sight.name))
+      → option_and_then (kept_at after.table) looked ≡ option_and_then (kept_at mount.table) looked
+  kept_stays None claims = refl
+  kept_stays (Some number) claims =
+      let c = claims number refl in
+      keeps.kept number c.0 c.1 (λ claimed. apart.mine_alone (key.Node number) c.2 claimed) (λ claimed. apart.mine_alone (key.Name c.0.name) c.3 claimed)
+
+  pub view_stays : (looks : Looks) → LooksClaimed mine mount looks → view_of after looks ≡ view_of mount looks
+  view_stays looks claims = λ i. record {
+    node = sight_stays looks.node claims.node i;
+    directory = sight_stays looks.directory claims.directory i;
+    handle = handle_stays looks.handle claims.handle i;
+    kept = kept_stays looks.kept claims.kept i;
+    old = old_same i;
+    listed = listed_same i;
+  }
+    where
+      old_same : option_and_then (old_at after.table (option_and_then (sight_at after.table) looks.node)) looks.old
+          ≡ option_and_then (old_at mount.table (option_and_then (sight_at mount.table) looks.node)) looks.old
+      old_same = subst (λ looked. option_and_then (old_at after.table (option_and_then (sight_at after.table) looks.node)) looked
+          ≡ option_and_then (old_at mount.table (option_and_then (sight_at mount.table) looks.node)) looked) (sym claims.old) refl
+
+      listed_same : map (sight_at after.table) looks.listed ≡ map (sight_at mount.table) looks.listed
+      listed_same = subst (λ looked. map (sight_at after.table) looked ≡ map (sight_at mount.table) looked) (sym claims.listed) refl
+
+-- a request that looks at one node alone, which it claims
+pub LooksClaimed-node : (mine : List Claim) (mount : MountModel) (number : ℕ) (sight : Sight) → sight_at mount.table number ≡ Some sight → IsClaimed mine (key.Node number)
+    → LooksClaimed mine mount (at_node number)
+LooksClaimed-node mine mount number sight seen claimed = record {
+  node = λ n is. let same : number ≡ n = same_Some is in (sight, ap (sight_at mount.table) (sym same) ∙ seen, subst (λ k. IsClaimed mine (key.Node k)) same claimed);
+  directory = λ n is. absurd (no_Some is);
+  handle = λ fh is. absurd (no_Some is);
+  kept = λ n is. absurd (no_Some is);
+  old = refl;
+  listed = refl;
+}

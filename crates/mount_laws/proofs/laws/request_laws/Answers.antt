@@ -1,0 +1,24 @@
+-- The laws of requests.
+use Rattle.mount_laws.proofs.RequestLaws.{stays_mount, leaves_others, claims_protect, claims_cover, never_out_of_memory, harmless_while_asking, asks_at_most}
+use Rattle.mount_laws.proofs.laws.request_laws.Goals as goal
+
+pub returns-clause-mounts : goal.returns-clause-mounts
+returns-clause-mounts c = stays_mount
+
+pub returns-clause-leaves : goal.returns-clause-leaves
+returns-clause-leaves c = leaves_others
+
+pub returns-clause-claims : goal.returns-clause-claims
+returns-clause-claims c = claims_protect
+
+pub returns-clause-covers : goal.returns-clause-covers
+returns-clause-covers c = claims_cover
+
+pub returns-clause-memory : goal.returns-clause-memory
+returns-clause-memory c = never_out_of_memory
+
+pub returns-clause-harmless : goal.returns-clause-harmless
+returns-clause-harmless c = harmless_while_asking
+
+pub returns-clause-bounded : goal.returns-clause-bounded
+returns-clause-bounded c = asks_at_most

@@ -1,0 +1,77 @@
+-- What a request asks of the bucket: its plan, the steps of a plan, and the walks along it.
+use Rattle.std.specs.Prelude.{◌≡◌, ℕ, ◌+◌, ◌≤◌, List, [], ◌∷◌, map, Option, Some, None, ◌⊎◌}
+use Rattle.bucket_api.specs.declared.answers.Answer.{Answer}
+use Rattle.bucket_api.specs.Operation.{Operation, read, insert, update, delete}
+use Rattle.mount_model.specs.Observing.{Observed}
+
+abbrev pub answers_of : List Observed → List Answer
+answers_of seen = map (λ (o : Observed). o.answer) seen
+
+-- the moment of the last operation, 0 where none was made
+abbrev pub last_moment : List Observed → ℕ
+last_moment [] = 0
+last_moment (o ∷ []) = o.moment
+last_moment (o ∷ p ∷ more) = last_moment (p ∷ more)
+
+-- A generation of an object, as a file or symlink shows it: the source of its content, and the size of that.
+pub record Source : Type 0 where
+  pub name : List ℕ
+  pub generation : ℕ
+  pub size : ℕ
+
+-- What a plan says next: that the request is done with the bucket; an operation to make; or that the source may be read,
+-- any range of it and any number of times, before the step behind it.
+pub data Step : Type 0 where
+  done : Step
+  ask : Operation → Step
+  may_read : Source → Step → Step
+
+-- A plan says what is next after these answers.
+abbrev pub Plan : Type 0
+Plan = List Answer → Step
+
+-- what is next once the first answer is known
+abbrev pub plan_after : Plan → Answer → Plan
+plan_after plan answer = λ answers. plan (answer ∷ answers)
+
+-- the operation is a read of the source, of a range that lies in it
+abbrev pub IsReadOf : Source → Operation → Type 0
+IsReadOf source (read name generation first count) = (name ≡ source.name) × (generation ≡ source.generation) × (first + count ≤ source.size)
+IsReadOf source op = ⊥
+
+-- the step allows the operation
+abbrev pub Allows : Step → Operation → Type 0
+Allows done op = ⊥
+Allows (ask asked) op = op ≡ asked
+Allows (may_read source next) op = IsReadOf source op ⊎ Allows next op
+
+-- the plan may end at the step
+abbrev pub MayEnd : Step → Type 0
+MayEnd done = Unit {0}
+MayEnd (ask op) = ⊥
+MayEnd (may_read source next) = MayEnd next
+
+-- the operation that the step asks, reads left out
+abbrev pub asked_by : Step → Option Operation
+asked_by done = None
+asked_by (ask op) = Some op
+asked_by (may_read source next) = asked_by next
+
+-- an operation that a call may have made before it stops short: any but an insert, an update or a delete
+abbrev pub IsHarmless : Operation → Type 0
+IsHarmless (insert name content pairs only stamp) = ⊥
+IsHarmless (update name pairs only only_meta stamp) = ⊥
+IsHarmless (delete name only) = ⊥
+IsHarmless op = Unit {0}
+
+-- A walk along a plan: what is observed is supplied at each step in turn, by whoever supplies: a bucket as it stands, or
+-- what a history tells. `Supplies s step o` says that the observation is what is supplied at the step in state s, and
+-- `next s o` is the state then.
+module _ {S : Type 0} (Supplies : S → Step → Observed → Type 0) (next : S → Observed → S) where
+  abbrev pub Walks : Plan → S → List Observed → Type 0
+  Walks plan s [] = Unit {0}
+  Walks plan s (o ∷ more) = Supplies s (plan []) o × Walks (plan_after plan o.answer) (next s o) more
+
+-- the plan may end where these were observed
+abbrev pub Completes : Plan → List Observed → Type 0
+Completes plan seen = MayEnd (plan (answers_of seen))

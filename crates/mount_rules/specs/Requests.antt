@@ -1,0 +1,12 @@
+-- One file for each request that the mount serves. Each ends in the request's rules.
+pub mod Create
+pub mod Destroy
+pub mod Forget
+pub mod Fsyncdir
+pub mod Init
+pub mod Lookup
+pub mod Opendir
+pub mod Readdir
+pub mod Releasedir
+pub mod Statfs
+pub mod Unserved

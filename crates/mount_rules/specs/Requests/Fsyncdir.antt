@@ -1,0 +1,23 @@
+-- FSYNCDIR: nothing of a directory is kept back, so there is nothing to write (fuse.h: `struct fuse_fsync_in`).
+use Rattle.std.specs.Prelude.{ℕ, [], ◌∷◌, Option, None}
+use Rattle.fuse_replies.specs.declared.reply.Reply.TheVariants.{Empty}
+use Rattle.mount_rules.specs.Claiming.{shares_node}
+use Rattle.mount_rules.specs.Guards.{on_open_directory}
+use Rattle.mount_rules.specs.Plans.{done}
+use Rattle.mount_rules.specs.Rules.{Rules, at_handle}
+use Rattle.mount_rules.specs.View.{View}
+
+abbrev pub refusal : ℕ → View → Option ℕ
+refusal node view = on_open_directory node view.handle (λ entries. None)
+
+abbrev pub rules : ℕ → ℕ → Rules
+rules node fh = record {
+  looks = at_handle node fh;
+  refusal = refusal node;
+  plan = λ taken answers. done;
+  wants = λ view. None;
+  claims = λ view. shares_node node ∷ [];
+  keys = λ view. [];
+  reply = λ taken mount seen. Empty;
+  after = λ taken mount seen. mount;
+}

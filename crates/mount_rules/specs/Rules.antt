@@ -1,0 +1,44 @@
+-- The rules of one request, as one value: where it looks, why it is refused, what it asks of the bucket, what it claims,
+-- what it is answered and what it leaves. Each request of the protocol has a file of its own under `Requests`, which ends
+-- in its rules; the dispatcher gives a request its rules.
+use Rattle.std.specs.Prelude.{ℕ, List, [], Option, Some, None}
+use Rattle.claim_spec.specs.declared.claim.Claim.{Claim}
+use Rattle.fuse_replies.specs.declared.reply.Reply.{Reply}
+use Rattle.mount_model.specs.declared.config.Config.{Config}
+use Rattle.mount_rules.specs.Mount.{MountModel}
+use Rattle.mount_model.specs.Observing.{Observed}
+use Rattle.mount_rules.specs.Plans.{Plan, Source}
+use Rattle.mount_rules.specs.View.{Looks, View}
+
+-- What a request has from its take: the settings, the second, which stamps what it asks, and its view.
+pub record Taken : Type 0 where
+  pub config : Config
+  pub second : ℕ
+  pub view : View
+
+pub record Rules : Type 0 where
+  pub looks : Looks
+  -- the first error that refuses it before anything is asked, once a version is agreed on
+  pub refusal : View → Option ℕ
+  pub plan : Taken → Plan
+  -- the source of which it wants a byte, if it wants one: it may find that source gone
+  pub wants : View → Option Source
+  -- the nodes and names that it claims from its take to its end
+  pub claims : View → List Claim
+  -- the keys of records that it looks for, in order: an object's path, or a directory's path and a slash
+  pub keys : View → List (List ℕ)
+  -- what it is answered, and what it leaves of the mount as it stands at its end
+  pub reply : Taken → MountModel → List Observed → Reply
+  pub after : Taken → MountModel → List Observed → MountModel
+
+-- nowhere
+abbrev pub nowhere : Looks
+nowhere = record { node = None; directory = None; handle = None; kept = None; old = None; listed = [] }
+
+-- at the head's node
+abbrev pub at_node : ℕ → Looks
+at_node node = record nowhere { node = Some node }
+
+-- at a handle, and at the head's node
+abbrev pub at_handle : ℕ → ℕ → Looks
+at_handle node fh = record nowhere { node = Some node; handle = Some fh }
