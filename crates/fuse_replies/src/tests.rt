@@ -1,4 +1,5 @@
 //! What no clause says of replies: frames from outside, and that each is written and read with ample memory.
+ghost use Rattle.std.specs.Prelude.{◌≤◌};
 ghost use Rattle.fuse_replies.specs.Replies.{without_spare, IsSendable};
 
 use crate::{

@@ -641,7 +641,7 @@ fn opcodes_that_are_not_served_are_unknown(rt: HostRuntime) -> Result<(), Fail> 
 fn many(alloc: Global, count: usize) -> Result<Bytes, AllocError> {
     let mut bytes = Vec::with_capacity(alloc, count)?;
     for _ in 0..count {
-        bytes.push_reserved(b'n');
+        bytes.push(b'n')?;
     }
     Ok(Bytes::from_vec(bytes))
 }
