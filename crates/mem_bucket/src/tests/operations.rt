@@ -1,5 +1,5 @@
 //! Operations that may be asked, and answers as text.
-ghost use Rattle.std.specs.Prelude.{IfOk};
+ghost use Rattle.std.specs.Prelude.{◌≤◌, IfOk};
 ghost use Rattle.bucket_api.specs.Metadata.{KeysRise};
 ghost use Rattle.bucket_api.specs.Names.{IsObjectName};
 ghost use Rattle.bucket_api.specs.Operation.{operation, IsAllowed};
