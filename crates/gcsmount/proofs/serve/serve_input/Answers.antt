@@ -6,17 +6,17 @@ use Rattle.gcsmount.specs.Serving.{ServesOn, StopsAfter}
 use Rattle.gcsmount.proofs.ServeLaws.{Progress-on, Streams-finished, Streams-nothing, Streams-read_fault, Streams-stopped}
 use Rattle.gcsmount.proofs.serve.serve_input.Goals as goal
 
-pub returns-in_default-clause-streams : goal.returns-in_default-clause-streams
-returns-in_default-clause-streams g c = Streams-nothing _ _ _
+pub returns-in_default : goal.returns-in_default
+returns-in_default g c = Streams-nothing _ _ _
 
-pub returns-in_default-new-clause-streams : goal.returns-in_default-new-clause-streams
-returns-in_default-new-clause-streams g c = Streams-nothing _ _ _
+pub returns-in_default-new : goal.returns-in_default-new
+returns-in_default-new g c = Streams-nothing _ _ _
 
-pub returns-in-Err-clause-streams : goal.returns-in-Err-clause-streams
-returns-in-Err-clause-streams g c = Streams-read_fault _ _ _ _ _ _ _ _ c.loop-cutter.invariant.so_far _ c.in-Err.ensures.err c.in-Err.ensures.failed
+pub returns-in-Err : goal.returns-in-Err
+returns-in-Err g c = Streams-read_fault _ _ _ _ _ _ _ _ c.loop-cutter.invariant.so_far _ c.in-Err.ensures.err c.in-Err.ensures.failed
 
-pub returns-in-Ok-eq0-clause-streams : goal.returns-in-Ok-eq0-clause-streams
-returns-in-Ok-eq0-clause-streams g c =
+pub returns-in-Ok-eq0 : goal.returns-in-Ok-eq0
+returns-in-Ok-eq0 g c =
     let none : c.in-Ok-eq0.field-0 ≡ 0 = omega arith in
     Streams-finished _ _ _ _ _ _ _ _ c.loop-cutter.invariant.so_far _ _ _ _ c.in-Ok-eq0.ensures.bytes none (c.in-Ok-eq0.ensures.end none) c.in-Ok-eq0.ensures.held c.end_of_input.ensures
 
@@ -36,8 +36,8 @@ loop-cutter-preserved g c =
           (subst (λ (buffer : List ℕ). ServesOn c.args.config.now so_far.input so_far.put (take count buffer) c.serve_taken.new.cutter c.serve_taken.new.serial (g.W.Sink.port c.loop-cutter.sink) (g.W.Sink.port c.serve_taken.new.sink)) written served.1);
     }
 
-pub returns-in-Err-serve_taken-clause-streams : goal.returns-in-Err-serve_taken-clause-streams
-returns-in-Err-serve_taken-clause-streams g c =
+pub returns-in-Err-serve_taken : goal.returns-in-Err-serve_taken
+returns-in-Err-serve_taken g c =
     let so_far = c.loop-cutter.invariant.so_far in
     let count : ℕ = c.in-Ok-take_piece.count in
     let bytes : List ℕ = c.take_piece.new.buffer in
