@@ -5,10 +5,14 @@ use Rattle.gcsmount.proofs.AnswerLaws.{AnswersSome-nothing, Answers-put}
 use Rattle.gcsmount.proofs.answer.answer.Goals as goal
 
 pub returns-in-Err : goal.returns-in-Err
-returns-in-Err g c = (AnswersSome-nothing _ _ _, refl)
+returns-in-Err g c = record {
+  answers = (AnswersSome-nothing _ _ _, refl);
+}
 
 pub returns-in-Ok : goal.returns-in-Ok
-returns-in-Ok g c =
-    let served : Serves c.args.serial.now.config c.args.serial.now.state (c.args.frame.now ∷ []) c.as_slice.result.now c.reply_to.new.serial.state =
-    subst (λ (text : List ℕ). Serves c.args.serial.now.config c.args.serial.now.state (c.args.frame.now ∷ []) text c.reply_to.new.serial.state) (sym c.as_slice.ensures.bytes) c.in-Ok.ensures.ok in
-    Answers-put _ _ _ _ _ _ _ c.reply_to.ensures.config served c.put.ensures.ok c.put.ensures.err c.put.ensures.failed c.put.ensures.kept
+returns-in-Ok g c = record {
+  answers =
+      let served : Serves c.args.serial.now.config c.args.serial.now.state (c.args.frame.now ∷ []) c.as_slice.result.now c.reply_to.new.serial.state =
+      subst (λ (text : List ℕ). Serves c.args.serial.now.config c.args.serial.now.state (c.args.frame.now ∷ []) text c.reply_to.new.serial.state) (sym c.as_slice.ensures.bytes) c.in-Ok.ensures.ok in
+      Answers-put _ _ _ _ _ _ _ c.reply_to.ensures.config served c.put.ensures.ok c.put.ensures.err c.put.ensures.failed c.put.ensures.kept;
+}
