@@ -1,1 +1,2 @@
+-- The laws of claims.
 pub mod Apart

@@ -1,3 +1,4 @@
+//! What a call claims.
 use io_ports::Text;
 
 /// What a claim is on.

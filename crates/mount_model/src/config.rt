@@ -1,3 +1,4 @@
+//! The settings of a mount.
 ghost use Rattle.std.specs.Prelude.{◌≡◌};
 ghost use Rattle.mount_model.specs.Configs.{default_config};
 

@@ -1,3 +1,4 @@
+//! The gate that calls pass before they are taken, and the numbers of calls.
 use std::sync::Wait;
 
 /// Which call of a mount: the number of the lane that makes it, and its index in that lane, from 1.
