@@ -1,3 +1,4 @@
+-- The laws that the proofs of `block_pool` cite.
 pub mod Lists
 pub mod Walks
 pub mod Relinking

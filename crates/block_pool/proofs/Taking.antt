@@ -10,6 +10,7 @@ use Rattle.block_pool.specs.Pool.{Pool, Keeps, put_block, take_chain, zero_block
 use Rattle.block_pool.proofs.Lists.{from_either, AllBelow, inserted_between}
 use Rattle.block_pool.proofs.Maps.{put_same, put_other, taken_same, taken_other, same_numbers}
 use Rattle.block_pool.proofs.Searching.{none_below}
+use Rattle.block_pool.proofs.Totals.{Keeps-then}
 
 -- ---- blocks of zeros
 zeros_below : (from count : ℕ) (p : ℕ) → from + count ≤ p → AllBelow p (zero_blocks from count)
@@ -58,7 +59,8 @@ back m (Some k) es apart = same_numbers _ _ (λ q. from_either
     none None e = refl
     none (Some fs) e = absurd (apart k (ap is_some e) refl)
 
-put_entries : (m : ChainMap (List ℕ)) (chain : Option ℕ) (es : Entries (List ℕ)) → IsSome chain → entries_of (with_chain m chain es) chain ≡ es
+-- a chain that was put has its entries
+pub put_entries : (m : ChainMap (List ℕ)) (chain : Option ℕ) (es : Entries (List ℕ)) → IsSome chain → entries_of (with_chain m chain es) chain ≡ es
 put_entries m None es s = absurd (false≢true s)
 put_entries m (Some k) es s = ap (λ o. unwrap_or o []) (put_same m k es)
 
@@ -66,11 +68,7 @@ pub IsTaken-more : (was now next : Pool) (chain new : Option ℕ) (count : ℕ) 
 IsTaken-more was now next chain new count t put some kept = record {
   pool = put ∙ ap (λ m. record { chains = m; free = now.free - 1; blocks = now.blocks }) chains_are ∙ rest;
   entries = ap (λ p. entries_of p.chains new) (put ∙ ap (λ m. record { chains = m; free = now.free - 1; blocks = now.blocks }) chains_are) ∙ put_entries was.chains new (zero_blocks 0 (count + 1)) some;
-  kept = record {
-    others = λ q s d. kept.others q (subst IsSome (sym (t.kept.others q s d)) s) (t.kept.apart q s d) ∙ t.kept.others q s d;
-    apart = λ q s d. kept.apart q (subst IsSome (sym (t.kept.others q s d)) s) (t.kept.apart q s d);
-    chain = kept.chain;
-  };
+  kept = Keeps-then was.chains now.chains next.chains None chain new t.kept kept;
   some = some ∙ sym (lt-ltb 0 (count + 1) (omega arith));
 }
   where

@@ -1,5 +1,5 @@
 -- How many blocks all chains have, and which chains stay, after a change.
-use Rattle.std.proofs.Common.{◌≡◌, ◌≢◌, ℕ, zero, suc, ◌+◌, ◌<◌, List, [], ◌⊎◌, inl, inr, Option, None, Some, IsSome, is_some, refl, sym, ap, ◌∙◌, length, arith}
+use Rattle.std.proofs.Common.{◌≡◌, ◌≢◌, ℕ, zero, suc, ◌+◌, ◌<◌, List, [], ◌⊎◌, inl, inr, Option, None, Some, IsSome, is_some, refl, sym, ap, subst, ◌∙◌, length, arith}
 use Rattle.std.proofs.lemmas.Bool.{cases_eq, false≢true}
 use Rattle.std.specs.FinMap as fin
 use Rattle.std.specs.Option.{unwrap_or}
@@ -106,3 +106,11 @@ Keeps-without m old = record {
 
 pub Keeps-same : (m : ChainMap (List ℕ)) (head : Option ℕ) → IsChain m head → Keeps m m head head
 Keeps-same m head own = record { others = λ q s d. refl; apart = λ q s d. d; chain = own }
+
+-- one change of a chain after another
+pub Keeps-then : (first mid last : ChainMap (List ℕ)) (head new later : Option ℕ) → Keeps first mid head new → Keeps mid last new later → Keeps first last head later
+Keeps-then first mid last head new later a b = record {
+  others = λ q s d. b.others q (subst IsSome (sym (a.others q s d)) s) (a.apart q s d) ∙ a.others q s d;
+  apart = λ q s d. b.apart q (subst IsSome (sym (a.others q s d)) s) (a.apart q s d);
+  chain = b.chain;
+}

@@ -1,3 +1,4 @@
+//! A chain of blocks, as its owner holds it.
 ghost use Rattle.std.specs.Prelude.{◌≡◌};
 
 use std::marker::Model;

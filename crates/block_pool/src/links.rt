@@ -1,3 +1,4 @@
+//! Which blocks are in which chain, and which are free.
 ghost use Rattle.std.specs.Prelude.{◌≡◌, ◌≢◌, ℕ, ◌+◌, ◌-◌, ◌<◌, ◌≤◌, [], None, Some, IsSome, ◌⊎◌, IfOk, length, ◌==◌, if◌then◌else◌};
 ghost use Rattle.std.specs.FinMap as fin;
 ghost use Rattle.block_pool.specs.Chains.{at, below, inserted, entries_of, replaced, head_of, IsChain};

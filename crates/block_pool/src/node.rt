@@ -1,3 +1,4 @@
+//! What is known of one block.
 /// What the region knows of a block.
 #[derive(Clone, Copy, Debug)]
 pub struct Node {

@@ -1,3 +1,4 @@
+//! How blocks are linked: changes of single nodes, and the search along a chain.
 ghost use Rattle.std.specs.Prelude.{◌≡◌, ◌+◌, ◌<◌, ◌≤◌, ◌^◌, ◌++◌, ◌∷◌, [], vec_len, vec_capacity};
 ghost use Rattle.block_pool.specs.Chains.{at};
 ghost use Rattle.block_pool.specs.Nodes.{node_at, chain_at, IsPlace, IsWithin};

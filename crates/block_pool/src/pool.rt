@@ -1,10 +1,12 @@
-ghost use Rattle.std.specs.Prelude.{◌≡◌, ℕ, ◌+◌, ◌≤◌, ◌<◌, Bool, None, Some, IsSome, is_some, IfOk, IfSome, length, take, drop, nat_lt, nat_le, if◌then◌else◌};
+//! The pool of blocks, and its calls.
+ghost use Rattle.std.specs.Prelude.{◌≡◌, ℕ, ◌+◌, ◌-◌, ◌≤◌, ◌<◌, Bool, None, Some, IsSome, is_some, IfOk, IfSome, length, take, drop, nat_lt, nat_le, if◌then◌else◌};
 ghost use Rattle.std.specs.Bool.{OnTrue, OnFalse};
 ghost use Rattle.std.specs.FinMap as fin;
 ghost use Rattle.std.specs.Option.{IfNone};
 ghost use Rattle.block_pool.specs.Chains.{at, entries_of, IsChain};
 ghost use Rattle.block_pool.specs.Pool as spec;
 ghost use Rattle.block_pool.specs.Pool.{IsPool, Keeps};
+ghost use Rattle.staging_spec.specs.Content.{zeros};
 
 use crate::chain::Chain;
 use crate::links::Links;
@@ -75,6 +77,7 @@ impl BlockPool {
         ensures ok { OnTrue result ((self.new ≡ spec.put_block self.old chain.old chain.new position) × IsSome chain.new) }
         ensures err { OnFalse result ((self.new ≡ self.old) × (chain.new ≡ chain.old)) }
         ensures kept { Keeps self.old.chains self.new.chains chain.old chain.new }
+        ensures valid { IsPool self.old }
     {
         if self.links.free() == 0 {
             return false;
@@ -148,9 +151,24 @@ impl BlockPool {
         ensures ok { self.new ≡ spec.write_block self.old chain.old position first from.now }
         ensures head { chain.new ≡ chain.old }
         ensures kept { Keeps self.old.chains self.new.chains chain.old chain.new }
+        ensures valid { IsPool self.old }
     {
         let head = chain.head().unwrap();
         let block = self.links.find(head, position).unwrap();
         self.region.write(block, first as usize, from);
+    }
+    /// Makes the bytes of the block at a position zeros, from a place in it on.
+    pub fn clear_from(&mut self, chain: &mut Chain, position: u64, first: u64)
+        requires chain { IsChain self.old.chains chain.old }
+        requires there { IsSome (at (entries_of self.old.chains chain.old) position) }
+        requires range { first ≤ 65536 }
+        ensures ok { self.new ≡ spec.write_block self.old chain.old position first (zeros (65536 - first)) }
+        ensures head { chain.new ≡ chain.old }
+        ensures kept { Keeps self.old.chains self.new.chains chain.old chain.new }
+        ensures valid { IsPool self.old }
+    {
+        let head = chain.head().unwrap();
+        let block = self.links.find(head, position).unwrap();
+        self.region.clear_from(block, first as usize);
     }
 }

@@ -1,4 +1,5 @@
-ghost use Rattle.std.specs.Prelude.{◌≡◌, ℕ, ◌+◌, ◌*◌, ◌<◌, ◌≤◌, ◌++◌, [], IfOk, length, take, drop, vec_len, vec_capacity, slice_index_or, slice_set};
+//! The bytes of the blocks.
+ghost use Rattle.std.specs.Prelude.{◌≡◌, ℕ, ◌+◌, ◌-◌, ◌*◌, ◌<◌, ◌≤◌, ◌++◌, [], IfOk, length, take, drop, vec_len, vec_capacity, slice_index_or, slice_set};
 ghost use Rattle.block_pool.specs.Blocks.{overwritten, readied};
 ghost use Rattle.staging_spec.specs.Content.{zeros};
 
@@ -75,6 +76,15 @@ impl Region {
         ensures { self.new ≡ record self.old { blocks = slice_set self.old.blocks block (overwritten (slice_index_or self.old.blocks block []) first from.now) } }
     {
         write_at(&mut self.bytes, block * BLOCK + first, from);
+    }
+
+    /// Makes the bytes of a block zeros, from a place in it on.
+    pub fn clear_from(&mut self, block: usize, first: usize)
+        requires block { block < length self.old.blocks }
+        requires range { first ≤ 65536 }
+        ensures { self.new ≡ record self.old { blocks = slice_set self.old.blocks block (overwritten (slice_index_or self.old.blocks block []) first (zeros (65536 - first))) } }
+    {
+        clear_at(&mut self.bytes, block * BLOCK + first, BLOCK - first);
     }
 }
 

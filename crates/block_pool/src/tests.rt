@@ -1,3 +1,4 @@
+//! Tests of the pool: blocks that are taken, cut and given back, row by row.
 ghost use Rattle.block_pool.specs.Chains.{IsChain};
 
 use crate::{BlockPool, Chain};

@@ -1,2 +1,3 @@
+-- The laws of staged content.
 pub mod ContentLaws
 pub mod WantedLaws

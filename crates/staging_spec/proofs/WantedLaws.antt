@@ -2,7 +2,7 @@
 use Rattle.std.proofs.Common.{◌≡◌, ℕ, zero, suc, ◌+◌, ◌-◌, ◌*◌, ◌<◌, ◌≤◌, Bool, true, false, cond, not, ◌&&◌, List, [], ◌∷◌, refl, sym, ap, subst, ◌∙◌, length, filter, nat_lt, arith}
 use Rattle.std.proofs.lemmas.Bool.{and_parts, ltb-true}
 use Rattle.staging_spec.specs.Blocks.{numbers_from, is_among, block_of, met, block_size}
-use Rattle.staging_spec.specs.Wanted.{Range, is_source, is_overwritten, last_of, span, wanted_by_read, wanted_by_write, wanted_by_flush}
+use Rattle.staging_spec.specs.Wanted.{Range, IsWithin, is_source, is_overwritten, last_of, span, wanted_by_read, wanted_by_write, wanted_by_flush}
 
 -- numbers that lie below a limit and at or above a number
 abbrev AllIn : ℕ → ℕ → List ℕ → Type 0
@@ -22,14 +22,10 @@ last_in : (low limit n : ℕ) (ns : List ℕ) → low ≤ n → n < limit → Al
 last_in low limit n [] le lt a = (le, lt)
 last_in low limit n (m ∷ ns) le lt a = last_in low limit m ns a.0 a.1 a.2
 
--- A range lies in a source: it is empty, or ends at or below the limit.
-abbrev pub IsWithin : Range → ℕ → Type 0
-IsWithin range limit = 0 < range.count → range.first + range.count ≤ limit
-
 -- the numbers rise from the first on
 span_in : (limit : ℕ) (ns : List ℕ) → AllIn 0 limit ns → ((n : ℕ) (ms : List ℕ) → ns ≡ n ∷ ms → n ≤ last_of n ms) → IsWithin (span ns) limit
-span_in limit [] a rises lt = omega arith
-span_in limit (n ∷ ns) a rises lt = let l = last_in 0 limit n ns a.0 a.1 a.2 in let r = rises n ns refl in let less = l.1 in omega arith
+span_in limit [] a rises = omega arith
+span_in limit (n ∷ ns) a rises = let l = last_in 0 limit n ns a.0 a.1 a.2 in let r = rises n ns refl in let less = l.1 in omega arith
 
 -- the first of rising numbers that pass a test is at most the last
 first_least : (test : ℕ → Bool) (first count : ℕ) (n : ℕ) (ms : List ℕ) → filter test (numbers_from first count) ≡ n ∷ ms → n ≤ last_of n ms

@@ -1,5 +1,5 @@
 -- Which bytes of the source a request on staged content wants.
-use Rattle.std.specs.Prelude.{ℕ, ◌+◌, ◌-◌, ◌*◌, ◌&&◌, Bool, not, List, [], ◌∷◌, filter, length, nat_lt, nat_le}
+use Rattle.std.specs.Prelude.{ℕ, ◌+◌, ◌-◌, ◌*◌, ◌<◌, ◌≤◌, ◌&&◌, Bool, not, List, [], ◌∷◌, filter, length, nat_lt, nat_le}
 use Rattle.staging_spec.specs.Blocks.{block_size, block_of, numbers_from, is_among, met}
 
 -- whether a byte is still the source's: it lies below the limit and in no touched block
@@ -10,6 +10,10 @@ is_source touched limit byte = nat_lt byte limit && not (is_among touched (block
 pub record Range : Type 0 where
   pub first : ℕ
   pub count : ℕ
+
+-- a range ends at or below a limit
+abbrev pub IsWithin : Range → ℕ → Type 0
+IsWithin range limit = range.first + range.count ≤ limit
 
 abbrev pub last_of : ℕ → List ℕ → ℕ
 last_of number [] = number

@@ -1,6 +1,6 @@
 use Rattle.std.proofs.Common.{◌≡◌, ◌⊎◌, None, Some, is_some, sym, ap, subst}
 use Rattle.block_pool.specs.Chains.{IsChain, at, entries_of, inserted, replaced}
-use Rattle.block_pool.proofs.PoolSteps.{IsPut, chain_is, absent_is, put_shows, put_filled, put_keeps}
+use Rattle.block_pool.proofs.PoolSteps.{IsPut, chain_is, absent_is, put_shows, put_filled, put_keeps, IsPool-filled}
 use Rattle.block_pool.proofs.pool.BlockPool.insert_sorted.Goals as goal
 
 pub link-head-requires-clause-chain : goal.link-head-requires-clause-chain
@@ -38,3 +38,9 @@ returns-clause-ok c = (put_shows c.self.inside.links c.self.inside.region c.self
 
 pub returns-clause-kept : goal.returns-clause-kept
 returns-clause-kept c = put_keeps c.self.inside.links c.self.inside.region c.self.invariant c.args.self.now c.self.view_is c.free.ensures.valid c.claim-block.new.self c.link-head.new.self c.ready.new.self c.args.chain.now c.claim-block.result c.args.position c.link-head.result (put c) c.set_head.new.self c.set_head.ensures
+
+pub returns-clause-valid : goal.returns-clause-valid
+returns-clause-valid c = IsPool-filled c.self.inside.links c.self.inside.region c.self.invariant c.args.self.now c.self.view_is c.free.ensures.valid
+
+pub returns-then-free-eq0-clause-valid : goal.returns-then-free-eq0-clause-valid
+returns-then-free-eq0-clause-valid c = IsPool-filled c.self.inside.links c.self.inside.region c.self.invariant c.args.self.now c.self.view_is c.free.ensures.valid

@@ -1,6 +1,6 @@
 use Rattle.std.proofs.Common.{◌∙◌, Some, IsSome, sym, subst}
 use Rattle.block_pool.specs.Chains.{IsChain, at, entries_of}
-use Rattle.block_pool.proofs.PoolSteps.{chain_is, there_is, block_within, written_shows, written_filled, written_keeps}
+use Rattle.block_pool.proofs.PoolSteps.{chain_is, there_is, block_within, written_shows, written_filled, written_keeps, IsPool-filled}
 use Rattle.block_pool.proofs.pool.BlockPool.write.Goals as goal
 
 pub find-requires : goal.find-requires
@@ -25,3 +25,6 @@ returns-clause-ok c = written_shows c.self.inside.links c.self.inside.region c.s
 
 pub returns-clause-kept : goal.returns-clause-kept
 returns-clause-kept c = written_keeps c.self.inside.links c.self.inside.region c.self.invariant c.args.self.now c.self.view_is c.find.ensures.valid c.write.new.self c.unwrap-head.result c.unwrap-block.result c.args.position c.args.first c.args.from.now (subst (IsChain c.args.self.now.chains) (sym c.head.ensures ∙ c.unwrap-head.ensures) c.requires.chain) (sym c.find.ensures.block ∙ c.unwrap-block.ensures) c.requires.range c.write.ensures c.args.chain.now (sym c.head.ensures ∙ c.unwrap-head.ensures)
+
+pub returns-clause-valid : goal.returns-clause-valid
+returns-clause-valid c = IsPool-filled c.self.inside.links c.self.inside.region c.self.invariant c.args.self.now c.self.view_is c.find.ensures.valid
