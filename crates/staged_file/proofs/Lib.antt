@@ -1,0 +1,11 @@
+pub mod Contents
+pub mod Positions
+pub mod Spans
+pub mod Chains
+pub mod Leaves
+pub mod Touching
+pub mod BlockByBlock
+pub mod Wanting
+pub mod Shortening
+pub mod PartsRead
+pub mod Copies
