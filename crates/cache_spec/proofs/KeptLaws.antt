@@ -112,6 +112,29 @@ module _ (key : FileKey) where
   IsCache-used capacity files cache = used_cases (λ was now. IsCache capacity now) files cache
       (λ file f. record { within = omega (arith, f.blocks, cache.within); none_empty = f.others cache.none_empty })
 
+-- a file that isn't kept has no entry, also among the files that stay
+pub entry_absent : (files : KeptFiles) (key : FileKey) → content_of files key ≡ None → lookup_entry (same_file key) files ≡ None
+entry_absent files key none = by (lookup_entry (same_file key) files) refl
+  where
+    some_none : (content : List ℕ) → Some content ≡ None → ⊥
+    some_none content same = cc
+
+    by : (o : Option (FileKey × List ℕ)) → lookup_entry (same_file key) files ≡ o → lookup_entry (same_file key) files ≡ None
+    by None e = e
+    by (Some file) e = absurd (some_none file.1 (sym (found key files file e).content ∙ none))
+
+pub content_of-fitting : (room : ℕ) (files : KeptFiles) (key : FileKey) → content_of files key ≡ None → content_of (fitting room files) key ≡ None
+content_of-fitting room [] key none = refl
+content_of-fitting room (file ∷ files) key none = by (content_of-fitting (room - blocks_of file.1) files key) (nat_le (blocks_of file.1) room) (same_file key file.0) refl none
+  where
+    some_none : (content : List ℕ) → Some content ≡ None → ⊥
+    some_none content same = cc
+
+    by : (content_of files key ≡ None → content_of (fitting (room - blocks_of file.1) files) key ≡ None) → (fits t : Bool) → same_file key file.0 ≡ t → cond t (Some file.1) (content_of files key) ≡ None → content_of (cond fits (file ∷ fitting (room - blocks_of file.1) files) []) key ≡ None
+    by later false t e rest = refl
+    by later true true e rest = absurd (some_none file.1 rest)
+    by later true false e rest = ap (λ t. cond t (Some file.1) (content_of (fitting (room - blocks_of file.1) files) key)) e ∙ later rest
+
 -- ---- how many files there may be
 one_block : (content : List ℕ) → 1 ≤ length content → 1 ≤ blocks_of content
 one_block content some = omega arith

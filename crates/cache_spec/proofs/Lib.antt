@@ -1,1 +1,2 @@
+-- The laws of kept files.
 pub mod KeptLaws
