@@ -10,6 +10,7 @@ pub mod Quiet
 pub mod RequestLaws
 pub mod Requests
 pub mod RunLaws
+pub mod ServingLaws
 pub mod Showings
 pub mod Sights
 pub mod Sound

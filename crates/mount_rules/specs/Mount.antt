@@ -3,6 +3,7 @@ use Rattle.std.specs.Prelude.{◌≡◌, ℕ, ◌+◌, ◌<◌, ◌≤◌, min, 
 use Rattle.std.specs.FinMap as fin
 use Rattle.std.specs.Ordering.{nat_cmp}
 use Rattle.bucket_api.specs.Metadata.{Metadata}
+use Rattle.file_metadata.specs.FileMetadata.{last_second}
 use Rattle.handle_table.specs.Handles.{Opened}
 use Rattle.inode_spec.specs.Inodes.{Inode, Inodes, IsLiveUnder, first_table}
 use Rattle.mount_model.specs.declared.config.Config.{Config}
@@ -44,10 +45,6 @@ pub record MountModel : Type 0 where
 -- a mount before its first request
 abbrev pub first_mount : MountModel
 first_mount = record { table = first_table; handles = fin.empty; next_handle = 1; negotiated = false }
-
--- the greatest second of a time: in 9892, as far as nanoseconds are told by nine digits
-abbrev pub last_second : ℕ
-last_second = 249999999999
 
 -- the second of a call, which stamps what it asks: the mount's start and the seconds since at its take, as far as times go
 abbrev pub second_at : Config → ℕ → ℕ

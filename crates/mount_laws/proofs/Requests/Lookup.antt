@@ -47,7 +47,7 @@ asks_path implicit path suffixed (a ∷ []) claimed op dir name allows = by (loo
 asks_path implicit path suffixed (a ∷ b ∷ more) claimed op dir name allows = absurd allows
 
 -- each of its operations is a list or a stat
-asks_harmless : (implicit : Bool) (path : List ℕ) (suffixed : Bool) (told : List Answer) (op : Operation) → Allows (lookup.plan implicit path suffixed told) op → IsHarmless op
+pub asks_harmless : (implicit : Bool) (path : List ℕ) (suffixed : Bool) (told : List Answer) (op : Operation) → Allows (lookup.plan implicit path suffixed told) op → IsHarmless op
 asks_harmless implicit path suffixed [] op allows = subst IsHarmless (sym allows) (by implicit)
   where
     by : (b : Bool) → IsHarmless (if b then list (dir_prefix_of path) false 1 None else stat (dir_prefix_of path))

@@ -42,7 +42,7 @@ covers prefix max after (answers.NotFound ∷ more) claimed op allows = absurd a
 covers prefix max after (answers.Precondition generation metageneration ∷ more) claimed op allows = absurd allows
 covers prefix max after (answers.Fault ∷ more) claimed op allows = absurd allows
 
-asks_lists : (prefix : List ℕ) (max : ℕ) (after : Option (List ℕ)) (told : List Answer) (op : Operation) → Allows (opendir.plan prefix max after told) op → IsHarmless op
+pub asks_lists : (prefix : List ℕ) (max : ℕ) (after : Option (List ℕ)) (told : List Answer) (op : Operation) → Allows (opendir.plan prefix max after told) op → IsHarmless op
 asks_lists prefix max after [] op allows = subst IsHarmless (sym allows) tt
 asks_lists prefix max after (answers.Page page ∷ more) op allows = by (λ key. asks_lists prefix max (Some key) more op) page.next allows
   where
