@@ -1,0 +1,14 @@
+//! What a request on names asks of the bucket next, by what it was answered so far; for the mount that makes its
+//! operations one after the other, and for the one that makes those of many calls at once.
+#![tactic(auto)]
+
+mod errand;
+mod found;
+mod listing;
+mod lookup;
+mod making;
+#[cfg(test)]
+mod tests;
+
+pub use errand::{NameErrand, errno, next_op};
+pub use found::{Found, Made, last_moment, outcome_of_insert, outcome_of_lookup};

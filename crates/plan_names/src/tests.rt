@@ -1,0 +1,323 @@
+//! The steps of each errand by hand, what each ends in, and a fault at each step.
+ghost use Rattle.std.specs.Prelude.{◌≡◌, ℕ, List, [], Some, None, IfOk};
+ghost use Rattle.mount_rules.specs.Making as making;
+ghost use Rattle.mount_rules.specs.Requests.Lookup as lookup;
+ghost use Rattle.mount_rules.specs.Requests.Opendir as opendir;
+ghost use Rattle.object_names.specs.Paths.{IsPath, IsPrefix};
+ghost use Rattle.plan_names.specs.Errands.{plan_of, Asked, IsErrand};
+
+use crate::{
+    Found, Made, NameErrand, errno, last_moment, next_op, outcome_of_insert, outcome_of_lookup,
+};
+use bucket_api::{Answer, Meta, Op, Page};
+use io_ports::{NoMemory, Row, Text};
+use mount_model::{Next, Observation};
+use object_names::{Component, dir_prefix, join};
+use std::alloc::Global;
+use std::process::Abort;
+use std::test::Fail;
+
+/// An operation in words.
+fn words(alloc: Global, op: &Op) -> Result<String, NoMemory> {
+    match op {
+        Op::Stat { name } => Ok(format!(in alloc; "stat {}", name.as_str())?),
+        Op::List {
+            prefix,
+            slash,
+            max,
+            after,
+        } => listed(alloc, prefix, *slash, *max, after),
+        Op::Insert {
+            name,
+            content,
+            only,
+            stamp,
+            ..
+        } => inserted(alloc, name, content.as_slice().len(), *only, *stamp),
+        _ => Ok(String::from_str(alloc, "another")?),
+    }
+}
+
+/// A list in words.
+fn listed(
+    alloc: Global,
+    prefix: &Text,
+    slash: bool,
+    max: u64,
+    after: &Option<Text>,
+) -> Result<String, NoMemory> {
+    let after = match after {
+        Some(key) => key.as_str(),
+        None => "nothing",
+    };
+    let by = if slash { "by slash" } else { "flat" };
+    let line = format!(in alloc; "list {} {by} {max} after {after}", prefix.as_str())?;
+    Ok(line)
+}
+
+/// An insert in words.
+fn inserted(
+    alloc: Global,
+    name: &Text,
+    size: usize,
+    only: Option<u64>,
+    stamp: u64,
+) -> Result<String, NoMemory> {
+    let only = only.unwrap_or(99);
+    let line = format!(in alloc; "insert {} {size} only {only} at {stamp}", name.as_str())?;
+    Ok(line)
+}
+
+/// What an errand asks next, at the second 7, or the error that it ends in.
+fn asks(alloc: Global, errand: &NameErrand, told: &[Answer]) -> Result<String, NoMemory>
+    requires errand { IsErrand errand.now }
+    requires asked { Asked (plan_of errand.now 7) told.now }
+{
+    match next_op(alloc, errand, 7, told)? {
+        Next::Do(op) => words(alloc, &op),
+        Next::Insert => Ok(String::from_str(alloc, "insert")?),
+        Next::Finish => {
+            let error = errno(errand, told);
+            Ok(format!(in alloc; "end {error}")?)
+        },
+    }
+}
+
+/// The path of a part of a directory.
+fn part_of(alloc: Global, prefix: &str, name: &str) -> Result<Text, NoMemory>
+    requires { IsPrefix prefix.now }
+    ensures { IfOk result (λ path. IsPath path) }
+{
+    let Ok(part) = Component::new(alloc, name.as_bytes()) else {
+        return Err(NoMemory);
+    };
+    match join(alloc, prefix, &part) {
+        Ok(path) => Ok(path),
+        Err(_) => Err(NoMemory),
+    }
+}
+
+/// The path `a/b`.
+fn path(alloc: Global) -> Result<Text, NoMemory>
+    ensures { IfOk result (λ path. IsPath path) }
+{
+    let directory = part_of(alloc, "", "a")?;
+    let prefix = dir_prefix(alloc, directory.as_str())?;
+    part_of(alloc, prefix.as_str(), "b")
+}
+
+/// What looking `a/b` up asks after these answers.
+fn looks_up(
+    alloc: Global,
+    suffix: bool,
+    implicit: bool,
+    told: &[Answer],
+) -> Result<String, NoMemory>
+    requires { (path : List ℕ) → Asked (lookup.plan implicit path suffix) told.now }
+{
+    let path = path(alloc)?;
+    let errand = NameErrand::Lookup {
+        path,
+        suffix,
+        implicit,
+    };
+    asks(alloc, &errand, told)
+}
+
+/// What making `a/b` asks after these answers.
+fn makes(alloc: Global, told: &[Answer]) -> Result<String, NoMemory>
+    requires { (name : List ℕ) → Asked (making.plan name [] 7) told.now }
+{
+    let name = path(alloc)?;
+    let errand = NameErrand::Make {
+        name,
+        pairs: Row::new(alloc),
+    };
+    asks(alloc, &errand, told)
+}
+
+/// What listing `d/` by pages of one key asks after these answers.
+fn lists(alloc: Global, told: &[Answer]) -> Result<String, NoMemory>
+    requires { (prefix : List ℕ) → Asked (opendir.plan prefix 1 None) told.now }
+{
+    let errand = NameErrand::Opendir {
+        prefix: Text::of(alloc, "d/")?,
+        page: 1,
+    };
+    asks(alloc, &errand, told)
+}
+
+/// What a bucket tells of an object of no bytes.
+fn meta(alloc: Global) -> Result<Meta, NoMemory> {
+    Ok(Meta {
+        name: Text::of(alloc, "a/b")?,
+        generation: 6,
+        metageneration: 1,
+        size: 0,
+        updated: 0,
+        pairs: Row::new(alloc),
+    })
+}
+
+/// A page that ends at a key.
+fn page(alloc: Global, key: &str) -> Result<Page, NoMemory>
+    ensures { IfOk result (λ page. page.next ≡ Some key.now) }
+{
+    Ok(Page {
+        items: Row::new(alloc),
+        prefixes: Row::new(alloc),
+        next: Some(Text::of(alloc, key)?),
+    })
+}
+
+/// A page behind which there is none.
+fn last_page(alloc: Global) -> Page
+    ensures { result.next ≡ None }
+{
+    Page {
+        items: Row::new(alloc),
+        prefixes: Row::new(alloc),
+        next: None,
+    }
+}
+
+#[test]
+fn asks_for_the_directory_first(rt: HostRuntime) -> Result<(), Fail> {
+    let line = looks_up(rt.alloc(), false, false, &[])?;
+    assert_eq!(rt; line.as_str(), "stat a/b/");
+    let line = looks_up(rt.alloc(), true, true, &[])?;
+    assert_eq!(rt; line.as_str(), "list a/b/ flat 1 after nothing");
+    Ok(())
+}
+
+#[test]
+fn asks_for_the_object_where_the_name_may_mean_it(rt: HostRuntime) -> Result<(), Fail> {
+    let line = looks_up(rt.alloc(), false, false, &[Answer::NotFound])?;
+    assert_eq!(rt; line.as_str(), "stat a/b");
+    let line = looks_up(rt.alloc(), true, false, &[Answer::Done])?;
+    assert_eq!(rt; line.as_str(), "stat a/b");
+    let line = looks_up(
+        rt.alloc(),
+        false,
+        true,
+        &[Answer::Page(last_page(rt.alloc()))],
+    )?;
+    assert_eq!(rt; line.as_str(), "stat a/b");
+    Ok(())
+}
+
+#[test]
+fn ends_at_the_probe(rt: HostRuntime) -> Result<(), Fail> {
+    let line = looks_up(rt.alloc(), false, false, &[Answer::Done])?;
+    assert_eq!(rt; line.as_str(), "end 0");
+    let line = looks_up(rt.alloc(), true, false, &[Answer::NotFound])?;
+    assert_eq!(rt; line.as_str(), "end 2");
+    let line = looks_up(rt.alloc(), true, true, &[Answer::Fault])?;
+    assert_eq!(rt; line.as_str(), "end 5");
+    Ok(())
+}
+
+#[test]
+fn ends_at_the_stat(rt: HostRuntime) -> Result<(), Fail> {
+    let found = Answer::Meta(meta(rt.alloc())?);
+    let line = looks_up(rt.alloc(), false, false, &[Answer::NotFound, found])?;
+    assert_eq!(rt; line.as_str(), "end 0");
+    let line = looks_up(rt.alloc(), true, false, &[Answer::Done, Answer::NotFound])?;
+    assert_eq!(rt; line.as_str(), "end 2");
+    let line = looks_up(rt.alloc(), false, false, &[Answer::NotFound, Answer::Fault])?;
+    assert_eq!(rt; line.as_str(), "end 5");
+    Ok(())
+}
+
+#[test]
+fn inserts_where_nothing_is(rt: HostRuntime) -> Result<(), Fail> {
+    let line = makes(rt.alloc(), &[])?;
+    assert_eq!(rt; line.as_str(), "insert a/b 0 only 0 at 7");
+    let made = Answer::Meta(meta(rt.alloc())?);
+    let line = makes(rt.alloc(), &[made])?;
+    assert_eq!(rt; line.as_str(), "end 0");
+    let taken = Answer::Precondition {
+        generation: 6,
+        metageneration: 1,
+    };
+    let line = makes(rt.alloc(), &[taken])?;
+    assert_eq!(rt; line.as_str(), "end 17");
+    let line = makes(rt.alloc(), &[Answer::Fault])?;
+    assert_eq!(rt; line.as_str(), "end 5");
+    Ok(())
+}
+
+#[test]
+fn lists_to_the_last_page(rt: HostRuntime) -> Result<(), Fail> {
+    let line = lists(rt.alloc(), &[])?;
+    assert_eq!(rt; line.as_str(), "list d/ by slash 1 after nothing");
+    let first = Answer::Page(page(rt.alloc(), "d/foo")?);
+    let line = lists(rt.alloc(), &[first])?;
+    assert_eq!(rt; line.as_str(), "list d/ by slash 1 after d/foo");
+    let first = Answer::Page(page(rt.alloc(), "d/foo")?);
+    let second = Answer::Page(page(rt.alloc(), "d/foo-x")?);
+    let line = lists(rt.alloc(), &[first, second])?;
+    assert_eq!(rt; line.as_str(), "list d/ by slash 1 after d/foo-x");
+    Ok(())
+}
+
+#[test]
+fn ends_behind_the_last_page(rt: HostRuntime) -> Result<(), Fail> {
+    let first = Answer::Page(page(rt.alloc(), "d/foo")?);
+    let last = Answer::Page(last_page(rt.alloc()));
+    let line = lists(rt.alloc(), &[first, last])?;
+    assert_eq!(rt; line.as_str(), "end 0");
+    let first = Answer::Page(page(rt.alloc(), "d/foo")?);
+    let line = lists(rt.alloc(), &[first, Answer::Fault])?;
+    assert_eq!(rt; line.as_str(), "end 5");
+    Ok(())
+}
+
+/// What was observed, with these answers at the moments 4 and 9.
+fn seen(alloc: Global, first: Answer, second: Answer) -> Result<Row<Observation>, NoMemory> {
+    let mut seen = Row::new(alloc);
+    seen.reserve(2)?;
+    seen.push(observed(alloc, 4, first)?);
+    seen.push(observed(alloc, 9, second)?);
+    Ok(seen)
+}
+
+/// What was observed by one operation.
+fn observed(alloc: Global, moment: u64, answer: Answer) -> Result<Observation, NoMemory> {
+    let name = Text::of(alloc, "a/b")?;
+    Ok(Observation {
+        op: Op::Stat { name },
+        moment,
+        answer,
+    })
+}
+
+/// What was found, as a letter.
+fn found(found: Found) -> char {
+    match found {
+        Found::Directory => 'd',
+        Found::Object(_) => 'o',
+        Found::Nothing => '-',
+        Found::Fault => '!',
+    }
+}
+
+/// What was made, as a letter.
+fn made(made: Made) -> char {
+    match made {
+        Made::New(_) => 'n',
+        Made::Exists => 'e',
+        Made::Fault => '!',
+    }
+}
+
+#[test]
+fn tells_what_came_of_it(rt: HostRuntime) -> Result<(), Fail> {
+    let both = seen(rt.alloc(), Answer::Done, Answer::NotFound)?;
+    assert_eq!(rt; last_moment(&both), 9);
+    assert_eq!(rt; found(outcome_of_lookup(both)), '-');
+    assert_eq!(rt; found(outcome_of_lookup(Row::new(rt.alloc()))), '!');
+    let both = seen(rt.alloc(), Answer::Fault, Answer::Done)?;
+    assert_eq!(rt; made(outcome_of_insert(both)), '!');
+    Ok(())
+}
