@@ -1,0 +1,25 @@
+-- A mount before its first request, with no spare out.
+use Rattle.std.proofs.Common.{◌≡◌, false, sym, ap, subst, arith}
+use Rattle.handle_table.specs.Handles.{Handles}
+use Rattle.mount_rules.specs.Mount.{IsMount, first_mount}
+use Rattle.mount_laws.proofs.Mounts.{IsMount-first}
+use Rattle.mount_state.specs.Tables.{mount_of}
+use Rattle.mount_state.proofs.mount.Mount.new.Goals as goal
+
+pub invariant_of-result : goal.invariant_of-result
+invariant_of-result c =
+    let next : c.new-2.result.next ≡ 1 = ap (λ (h : Handles). h.next) c.new-2.ensures.ok in
+    record {
+      mount = subst IsMount
+          (sym (λ i. record {
+            table = (c.in_ok-nodes.ensures.ok i).table;
+            handles = (c.new-2.ensures.ok i).handles;
+            next_handle = (c.new-2.ensures.ok i).next;
+            negotiated = false;
+          }))
+          IsMount-first;
+      node_room = omega arith;
+      handle_room = omega arith;
+      numbers = omega (arith, next);
+      bounded = omega arith;
+    }

@@ -1,0 +1,5 @@
+-- The words that the contracts of `mount_state` cite.
+pub mod Codes
+pub mod Mounts
+pub mod Spares
+pub mod Tables

@@ -1,0 +1,30 @@
+-- The mount that the two tables make.
+use Rattle.std.specs.Prelude.{ℕ, ◌+◌, ◌≤◌, ◌^◌}
+use Rattle.mount_rules.specs.Mount.{IsMount, MountModel}
+use Rattle.mount_state.specs.declared.tables.Tables.{Tables}
+
+abbrev pub mount_of : Tables → MountModel
+mount_of tables = record { table = tables.nodes.table; handles = tables.handles.handles; next_handle = tables.handles.next; negotiated = tables.negotiated }
+
+-- the most room that a mount ever promises
+abbrev pub most_promised : ℕ
+most_promised = 2 ^ 48
+
+-- The tables make a mount, both have the room that is promised, and no more handles were opened than room was given for.
+pub record IsKept (tables : Tables) (promised given : ℕ) : Type 0 where
+  pub mount : IsMount (mount_of tables)
+  pub node_room : promised ≤ tables.nodes.spare
+  pub handle_room : promised ≤ tables.handles.spare
+  pub numbers : tables.handles.next + promised ≤ given + 1
+  pub bounded : given ≤ most_promised
+
+-- the tables have this much room
+pub record HasRoom (room : ℕ) (tables : Tables) : Type 0 where
+  pub nodes : room ≤ tables.nodes.spare
+  pub handles : room ≤ tables.handles.spare
+
+-- the tables have used up at most this much room, and as many numbers of handles
+pub record Uses (room : ℕ) (old new : Tables) : Type 0 where
+  pub nodes : old.nodes.spare ≤ new.nodes.spare + room
+  pub handles : old.handles.spare ≤ new.handles.spare + room
+  pub numbers : new.handles.next ≤ old.handles.next + room

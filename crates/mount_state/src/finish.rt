@@ -1,0 +1,54 @@
+//! The end of each request: what it is answered, and what it leaves.
+ghost use Rattle.std.specs.Prelude.{◌≡◌, ◌<◌, ◌^◌, ℕ, None};
+ghost use Rattle.fuse_replies.specs.Replies.{IsSendable, without_spare as reply_without_spare};
+ghost use Rattle.fuse_requests.specs.Grammar.{without_spare};
+ghost use Rattle.mount_rules.specs.Dispatch.{early, mount_after, reply_to};
+ghost use Rattle.mount_state.specs.Spares.{Fills, IsFor, need};
+ghost use Rattle.mount_state.specs.Tables.{mount_of, HasRoom, Uses};
+
+use crate::spare::Spare;
+use crate::tables::Tables;
+use fuse_replies::Reply;
+use fuse_requests::Request;
+use io_ports::Row;
+use mount_model::{Config, Observation};
+
+impl Tables {
+    /// What a request that observed this is answered, and the tables then.
+    pub(crate) fn finish(
+        &mut self,
+        config: &Config,
+        request: &Request,
+        spare: Spare,
+        seen: Row<Observation>,
+    ) -> Reply
+        requires free { early (mount_of self.old) (without_spare request.now) ≡ None }
+        requires spare { IsFor (mount_of self.old) (without_spare request.now) spare }
+        requires items { Fills config.now (mount_of self.old) (without_spare request.now) seen.items spare.items }
+        requires room { HasRoom (need spare.provided) self.old }
+        requires number { self.old.handles.next < 2 ^ 62 }
+        ensures reply { (second : ℕ) → reply_without_spare result ≡ reply_to config.now second (mount_of self.old) (without_spare request.now) seen.items }
+        ensures mount { (second : ℕ) → mount_of self.new ≡ mount_after config.now second (mount_of self.old) (without_spare request.now) seen.items }
+        ensures uses { Uses (need spare.provided) self.old self.new }
+        ensures sendable { IsSendable (reply_without_spare result) }
+    {
+        let Spare { items, prepared } = spare;
+        match request {
+            Request::Lookup { .. } => self.look_up(config, prepared.into_path(), seen),
+            Request::Create { .. } => self.create(config, prepared.into_path(), seen),
+            Request::Readdir { .. } => Reply::Dirents(prepared.into_entries()),
+            Request::Opendir { node } => self.open_directory(*node, items, seen),
+            Request::Releasedir { fh, .. } => self.release_directory(*fh),
+            Request::Fsyncdir { .. } | Request::Destroy => Reply::Empty,
+            Request::Statfs => Reply::Stat,
+            Request::Init {
+                major,
+                minor,
+                readahead,
+                flags,
+            } => self.init(*major, *minor, *readahead, *flags),
+            Request::Forget { node, count } => self.forget(*node, *count),
+            _ => Reply::Silent,
+        }
+    }
+}

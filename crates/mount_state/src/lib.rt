@@ -1,0 +1,28 @@
+//! A mount in tables: what it holds of nodes and handles, why it refuses a request, and what a request that is done is
+//! answered and leaves.
+#![tactic(auto)]
+
+mod attributes;
+mod create;
+mod entries;
+mod file;
+mod finish;
+mod forget;
+mod init;
+mod lookup;
+mod mount;
+mod opendir;
+mod path;
+mod prepare;
+mod prepared;
+mod refusals;
+mod releasedir;
+mod showing;
+mod spare;
+mod tables;
+#[cfg(test)]
+mod tests;
+
+pub use file::{File, Kept};
+pub use mount::Mount;
+pub use spare::Spare;

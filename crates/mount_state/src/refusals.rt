@@ -1,0 +1,192 @@
+//! Why a request is refused before it asks anything.
+ghost use Rattle.std.specs.Prelude.{◌≡◌, Some, None, nat_le, if◌then◌else◌};
+ghost use Rattle.fuse_replies.specs.Errno.{einval, enotdir, estale};
+ghost use Rattle.fuse_requests.specs.Grammar.{without_spare};
+ghost use Rattle.inode_spec.specs.Inodes as inodes;
+ghost use Rattle.mount_rules.specs.Dispatch as rules;
+ghost use Rattle.mount_rules.specs.Guards as guards;
+ghost use Rattle.mount_rules.specs.Requests.Readdir as readdir;
+ghost use Rattle.mount_rules.specs.View.{Sight, sight_at};
+ghost use Rattle.mount_state.specs.Tables.{mount_of};
+ghost use Rattle.std.specs.FinMap as fin;
+
+use crate::file::File;
+use crate::tables::Tables;
+use fuse_replies::errno::{EBADF, EINVAL, ENAMETOOLONG, ENOSYS, ENOTDIR, EPROTO, ESTALE};
+use fuse_requests::{Request, opcode};
+use inode_table::Inode;
+use object_names::{NameFault, NodeKind, component_text, path_fits, strip_suffix};
+
+/// The number of the root: `FUSE_ROOT_ID` of fuse.h.
+const ROOT: u64 = 1;
+
+/// The most bytes that a READ or READDIR may ask for.
+const LONGEST_READ: u32 = 1_048_576;
+
+impl Tables {
+    /// The error with which a request that gets a reply is refused before it asks anything of the bucket: first that no
+    /// version is agreed on (EPROTO), then that it isn't served (ENOSYS) or could not be read (EINVAL), then what its own
+    /// rules refuse. None where nothing does, and for requests that never get a reply.
+    pub(crate) fn early(&self, request: &Request) -> Option<u32>
+        ensures { result ≡ rules.early (mount_of self.now) (without_spare request.now) }
+    {
+        if !self.negotiated && !is_silent(request) && !is_init(request) {
+            return Some(EPROTO);
+        }
+        self.refusal(request)
+    }
+
+    /// The error with which a request's own rules refuse it.
+    fn refusal(&self, request: &Request) -> Option<u32>
+        ensures { result ≡ (rules.rules_of (without_spare request.now)).refusal (rules.view_in (mount_of self.now) (without_spare request.now)) }
+    {
+        match request {
+            Request::Lookup { node, name } => self.child_refusal(
+                *node,
+                strip_suffix(name.as_slice()).0,
+            ),
+            Request::Create { node, name } => self.child_refusal(*node, name.as_slice()),
+            Request::Opendir { node } => self.directory_refusal(*node),
+            Request::Readdir { node, fh, size, .. } => self.readdir_refusal(*node, *fh, *size),
+            Request::Releasedir { node, fh } | Request::Fsyncdir { node, fh } => {
+                self.handle_refusal(*node, *fh)
+            }
+            Request::Init { .. } | Request::Statfs | Request::Destroy => None,
+            Request::Forget { .. } | Request::BatchForget { .. } | Request::Interrupt => None,
+            Request::Unknown { opcode } => unread(*opcode),
+            _ => Some(ENOSYS),
+        }
+    }
+
+    /// The error of a node that is no live directory.
+    fn directory_refusal(&self, node: u64) -> Option<u32>
+        ensures { result ≡ guards.in_directory (sight_at self.now.nodes.table node) (λ directory. None) }
+    {
+        match self.nodes.get(node) {
+            Some(inode) => kind_refusal(node, inode),
+            None => Some(ESTALE),
+        }
+    }
+
+    /// The error of a name in a directory: that of the directory, or that the name is no component or its path too long.
+    fn child_refusal(&self, node: u64, part: &[u8]) -> Option<u32>
+        ensures { result ≡ guards.in_directory (sight_at self.now.nodes.table node) (guards.part_refusal part.now) }
+    {
+        let Some(inode) = self.nodes.get(node) else {
+            return Some(ESTALE);
+        };
+        match kind_refusal(node, inode) {
+            Some(errno) => Some(errno),
+            None => part_refusal(part, inode.name.as_str()),
+        }
+    }
+
+    /// The error of a handle that is no open directory on this node.
+    fn handle_refusal(&self, node: u64, fh: u64) -> Option<u32>
+        ensures { result ≡ guards.on_open_directory node (fin.get self.now.handles.handles fh) (λ entries. None) }
+    {
+        match self.handles.get(fh) {
+            Some(handle) if handle.node == node && handle.items.is_some() => None,
+            _ => Some(EBADF),
+        }
+    }
+
+    /// The error of a READDIR: that of its handle, or that it asks for too many bytes.
+    fn readdir_refusal(&self, node: u64, fh: u64, size: u32) -> Option<u32>
+        ensures { result ≡ guards.on_open_directory node (fin.get self.now.handles.handles fh) (λ entries. if nat_le size readdir.longest_read then None else Some einval) }
+    {
+        match self.handle_refusal(node, fh) {
+            Some(errno) => Some(errno),
+            None if size <= LONGEST_READ => None,
+            None => Some(EINVAL),
+        }
+    }
+}
+
+/// The error of a node that is there and is no live directory.
+fn kind_refusal(node: u64, inode: &Inode<File>) -> Option<u32>
+    ensures { result ≡ (if inodes.is_live node inode.now then (if guards.is_directory inode.now.kind then None else Some enotdir) else Some estale) }
+{
+    if node != ROOT && inode.lookups == 0 {
+        return Some(ESTALE);
+    }
+    match inode.kind {
+        NodeKind::Dir => None,
+        _ => Some(ENOTDIR),
+    }
+}
+
+/// The error of a name in the directory of a prefix: it is no component, or its path is too long.
+fn part_refusal(part: &[u8], prefix: &str) -> Option<u32>
+    ensures { (sight : Sight) → sight.name ≡ prefix.now → result ≡ guards.part_refusal part.now sight }
+{
+    match component_text(part) {
+        Err(NameFault::TooLong) => Some(ENAMETOOLONG),
+        Err(_) => Some(EINVAL),
+        Ok(part) if path_fits(prefix, part) => None,
+        Ok(_) => Some(ENAMETOOLONG),
+    }
+}
+
+/// Whether the request never gets a reply: FORGET, BATCH_FORGET and INTERRUPT, also where their bodies could not be read.
+pub(crate) fn is_silent(request: &Request) -> bool
+    ensures { result ≡ rules.is_silent (without_spare request.now) }
+{
+    match request {
+        Request::Forget { .. } | Request::BatchForget { .. } | Request::Interrupt => true,
+        Request::Unknown { opcode } => is_silent_opcode(*opcode),
+        _ => false,
+    }
+}
+
+/// Whether the request is INIT, also where its body could not be read.
+fn is_init(request: &Request) -> bool
+    ensures { result ≡ rules.is_init (without_spare request.now) }
+{
+    match request {
+        Request::Init { .. } => true,
+        Request::Unknown { opcode } => *opcode == opcode::INIT,
+        _ => false,
+    }
+}
+
+/// Whether requests of this opcode never get a reply.
+fn is_silent_opcode(opcode: u32) -> bool
+    ensures { result ≡ rules.is_among rules.silent_opcodes opcode }
+{
+    matches!(
+        opcode,
+        opcode::FORGET | opcode::INTERRUPT | opcode::BATCH_FORGET
+    )
+}
+
+/// Whether requests of this opcode are served, and get a reply.
+fn is_served_opcode(opcode: u32) -> bool
+    ensures { result ≡ rules.is_among rules.served_opcodes opcode }
+{
+    matches!(
+        opcode,
+        opcode::LOOKUP
+            | opcode::STATFS
+            | opcode::INIT
+            | opcode::OPENDIR
+            | opcode::READDIR
+            | opcode::RELEASEDIR
+            | opcode::FSYNCDIR
+            | opcode::CREATE
+            | opcode::DESTROY
+    )
+}
+
+/// The error of a request that could not be read: a served one has a body outside the grammar, and another's is unread.
+fn unread(opcode: u32) -> Option<u32>
+    ensures { result ≡ rules.unread opcode }
+{
+    if is_silent_opcode(opcode) {
+        return None;
+    }
+    if is_served_opcode(opcode) {
+        return Some(EINVAL);
+    }
+    Some(ENOSYS)
+}

@@ -1,0 +1,12 @@
+//! The tables of a mount.
+use crate::file::File;
+use handle_table::HandleTable;
+use inode_table::InodeTable;
+
+/// What a mount holds: its nodes, its open handles, and whether a version of the protocol is agreed on.
+#[derive(Drop)]
+pub(crate) struct Tables {
+    pub(crate) nodes: InodeTable<File>,
+    pub(crate) handles: HandleTable,
+    pub(crate) negotiated: bool,
+}
