@@ -1,0 +1,8 @@
+-- The words that the contracts of `mount_core` cite.
+pub mod Codes
+pub mod Errands
+pub mod SeenList
+pub mod SeenRows
+pub mod Serials
+pub mod Stores
+pub mod Walks

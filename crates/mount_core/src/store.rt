@@ -1,0 +1,68 @@
+//! The bucket of a mount on one thread.
+ghost use Rattle.std.specs.Prelude.{◌≡◌, ◌<◌, ◌≤◌, ◌+◌, ◌^◌, IfOk, OnOk, OnErr};
+ghost use Rattle.bucket_api.specs.BucketState.{IsBucket, IsWithin};
+ghost use Rattle.bucket_api.specs.BucketStep.{answer_to, state_after};
+ghost use Rattle.bucket_api.specs.Operation.{operation, IsAllowed};
+ghost use Rattle.mount_core.specs.Stores.{most};
+
+use bucket_api::{Answer, Op};
+use bucket_plain::Plain;
+use io_ports::NoMemory;
+use std::alloc::Global;
+use std::marker::Model;
+
+/// The most operations that are made on a bucket, so that no number comes to its end.
+const MOST_OPERATIONS: u64 = 1 << 48;
+
+/// A bucket, and how many operations were made on it.
+#[derive(Drop)]
+pub(crate) struct Store {
+    bucket: Plain,
+    made: u64,
+}
+
+impl Model for Store {
+    ghost use Rattle.mount_core.specs.Stores.{Counted, IsCounted};
+
+    ghost Value = { Counted };
+
+    ghost view = { λ s. record { bucket = s.bucket; made = s.made } };
+
+    ghost invariant = { λ s. IsCounted (record { bucket = s.bucket; made = s.made }) };
+}
+
+impl Store {
+    /// A bucket on which no operation was made yet. Its generations and metagenerations are at most 2^62.
+    pub(crate) fn new(bucket: Plain) -> Store
+        requires within { IsWithin (2 ^ 62) bucket }
+        ensures { result ≡ record { bucket = bucket; made = 0 } }
+    {
+        bucket.last();
+        Store { bucket, made: 0 }
+    }
+
+    /// Makes an operation: its moment, from 1, and its answer. `NoMemory` where memory for the answer or the object was
+    /// refused, or once 2^48 operations were made; then nothing was made.
+    pub(crate) fn make(&mut self, alloc: Global, op: &Op) -> Result<(u64, Answer), NoMemory>
+        requires may { IsAllowed (operation op.now) }
+        ensures ok { IfOk result (λ made. (made.0 ≡ self.old.made + 1) × (made.1 ≡ answer_to (operation op.now) self.old.bucket)) }
+        ensures after { OnOk result (self.new ≡ record { bucket = state_after (operation op.now) self.old.bucket; made = self.old.made + 1 }) }
+        ensures bounded { OnOk result (self.old.made < most) }
+        ensures valid { IsBucket self.old.bucket }
+        ensures err { OnErr result (self.new ≡ self.old) }
+    {
+        if self.made >= MOST_OPERATIONS {
+            return Err(NoMemory);
+        }
+        let answer = self.bucket.apply(alloc, op)?;
+        self.made += 1;
+        Ok((self.made, answer))
+    }
+
+    /// The bucket as it stands.
+    pub(crate) fn bucket(&self) -> &Plain
+        ensures { result.now ≡ self.now.bucket }
+    {
+        &self.bucket
+    }
+}
