@@ -9,12 +9,11 @@ use Rattle.fuse_replies.specs.declared.reply.Reply.{Reply}
 use Rattle.fuse_replies.specs.Replies.{frame_of}
 use Rattle.fuse_requests.specs.declared.request.Request.{Request}
 use Rattle.fuse_requests.specs.Grammar.{request_of}
-use Rattle.mount_model.specs.declared.config.Config.{Config}
-use Rattle.mount_spec.specs.OneThread.{RunState, Performs, Serves, BeginsServing}
-use Rattle.mount_spec.proofs.RunLaws.{BeginsServing-after, BeginsServing-more, BeginsServing-nothing, BeginsServing-taken, BeginsServing-whole, Serves-append, Serves-nil, Serves-request}
-use Rattle.gcsmount.specs.Answers.{Answers, AnswersAll, AnswersSome, IsCause}
+use Rattle.mount_core.specs.Serials.{SerialState, ServesOne}
+use Rattle.mount_rules.specs.OneThread.{BeginsServing, Performs, Serves}
+use Rattle.mount_laws.proofs.ServingLaws.{BeginsServing-after, BeginsServing-more, BeginsServing-nothing, BeginsServing-taken, BeginsServing-whole, Serves-append, Serves-nil, Serves-request}
+use Rattle.gcsmount.specs.Answers.{Answers, AnswersAll, AnswersSome, IsCause, ServesFrames}
 use Rattle.io_ports.specs.Ports.{Port}
-use Rattle.gcsmount.specs.SerialState.{SerialState}
 use Rattle.gcsmount.specs.declared.answer.Stop.{Stop}
 use Rattle.gcsmount.specs.declared.answer.Stop.TheVariants.{WriteFault, NoMemory}
 
@@ -23,12 +22,12 @@ pub AnswersSome-nothing : (mount : SerialState) (frames : List (List ℕ)) (sink
 AnswersSome-nothing mount frames sink = record {
   put = [];
   appended = Appends-nil sink.bytes;
-  begun = BeginsServing-nothing mount.config mount.state frames;
+  begun = λ run came. BeginsServing-nothing mount.config run frames;
 }
 
 -- the replies to frames were handed to the sink
 pub Answers-put : {U : Type 0} (mount mount' : SerialState) (frames : List (List ℕ)) (text : List ℕ) (sink sink' : Port) (r : Result U Stop)
-    → mount'.config ≡ mount.config → Serves mount.config mount.state frames text mount'.state
+    → mount'.config ≡ mount.config → ServesFrames mount frames text mount'
     → OnOk r (Appends sink.bytes sink'.bytes text) → OnErr r (AppendsPrefix sink.bytes sink'.bytes text)
     → IfErr r (λ stop. (stop ≡ WriteFault) × Rose sink.faults sink'.faults) → OnOk r (sink'.faults ≡ sink.faults)
     → Answers mount mount' frames sink sink' r
@@ -38,19 +37,24 @@ Answers-put mount mount' frames text sink sink' (Err stop) config served all som
   record {
     put = take some.0 text;
     appended = some.1;
-    begun = BeginsServing-taken mount.config mount.state mount'.state frames text some.0 served;
+    begun = λ run came. let whole = served run came in BeginsServing-taken mount.config run whole.to frames text some.0 whole.served;
   },
   subst (λ why. IsCause why sink sink') (sym cause.0) cause.1,
 )
 
 -- the frame of the reply to a request that was performed serves the frame of the request
-pub Serves-written : {E : Type 0} (config : Config) (state after : RunState) (frame : List ℕ) (request : Request) (reply : Reply) (r : Result (List ℕ) E)
-    → request ≡ request_of frame → Performs config state request reply after
-    → IfOk r (λ text. text ≡ frame_of (u64_at frame 8) reply) → IfOk r (λ text. Serves config state (frame ∷ []) text after)
-Serves-written config state after frame request reply (Ok text) asked done is =
-    subst (λ t. Serves config state (frame ∷ []) t after) (sym is)
-    (Serves-request config state after frame reply (subst (λ q. Performs config state q reply after) asked done))
-Serves-written config state after frame request reply (Err e) asked done is = tt
+pub Serves-written : {E : Type 0} (before after : SerialState) (frame : List ℕ) (request : Request) (reply : Reply) (r : Result (List ℕ) E)
+    → request ≡ request_of frame → ServesOne before request reply after
+    → IfOk r (λ text. text ≡ frame_of (u64_at frame 8) reply) → IfOk r (λ text. ServesFrames before (frame ∷ []) text after)
+Serves-written before after frame request reply (Ok text) asked done is = λ run came.
+    let one = done run came in
+    let performs : Performs before.config run (request_of frame) reply one.left = subst (λ q. Performs before.config run q reply one.left) asked one.performs in
+    record {
+      to = one.left;
+      served = subst (λ t. Serves before.config run (frame ∷ []) t one.left) (sym is) (Serves-request before.config run one.left frame reply performs);
+      came = one.came;
+    }
+Serves-written before after frame request reply (Err e) asked done is = tt
 
 -- a stop says of a sink whose count had stayed what it says from the beginning on
 pub IsCause-later : (stop : Stop) (before between now : Port) → between.faults ≡ before.faults → IsCause stop between now → IsCause stop before now
@@ -63,7 +67,7 @@ AnswersAll-nothing mount sink = record {
   put = [];
   appended = Appends-nil sink.bytes;
   config = refl;
-  served = Serves-nil mount.config mount.state;
+  served = λ run came. record { to = run; served = Serves-nil mount.config run; came = came };
   faults = refl;
 }
 
@@ -74,9 +78,16 @@ AnswersAll-then mount between mount' first then sink amid sink' one two = record
   put = one.put ++ two.put;
   appended = Appends-trans sink.bytes amid.bytes sink'.bytes one.put two.put one.appended two.appended;
   config = two.config ∙ one.config;
-  served =
-      Serves-append mount.config mount.state between.state mount'.state first then one.put two.put one.served
-      (subst (λ config. Serves config between.state then two.put mount'.state) one.config two.served);
+  served = λ run came.
+      let begun = one.served run came in
+      let ended = two.served begun.to begun.came in
+      record {
+        to = ended.to;
+        served =
+            Serves-append mount.config run begun.to ended.to first then one.put two.put begun.served
+            (subst (λ config. Serves config begun.to then two.put ended.to) one.config ended.served);
+        came = ended.came;
+      };
   faults = two.faults ∙ one.faults;
 }
 
@@ -86,16 +97,17 @@ pub AnswersSome-then : (mount between : SerialState) (first then : List (List �
 AnswersSome-then mount between first then sink amid sink' one two = record {
   put = one.put ++ two.put;
   appended = Appends-trans sink.bytes amid.bytes sink'.bytes one.put two.put one.appended two.appended;
-  begun =
-      BeginsServing-after mount.config mount.state between.state first then one.put two.put one.served
-      (subst (λ config. BeginsServing config between.state then two.put) one.config two.begun);
+  begun = λ run came.
+      let served = one.served run came in
+      BeginsServing-after mount.config run served.to first then one.put two.put served.served
+      (subst (λ config. BeginsServing config served.to then two.put) one.config (two.begun served.to served.came));
 }
 
 -- replies that were begun are those to more frames, too
 pub AnswersSome-more : (mount : SerialState) (first then : List (List ℕ)) (sink sink' : Port)
     → AnswersSome mount first sink sink' → AnswersSome mount (first ++ then) sink sink'
 AnswersSome-more mount first then sink sink' one =
-    record { put = one.put; appended = one.appended; begun = BeginsServing-more mount.config mount.state first then one.put one.begun }
+    record { put = one.put; appended = one.appended; begun = λ run came. BeginsServing-more mount.config run first then one.put (one.begun run came) }
 
 -- among waiting frames, the first ones were answered, and then the next one stopped
 pub Answers-stopped : (mount between : SerialState) (done rest waiting : List (List ℕ)) (frame : List ℕ) (sink amid sink' : Port) (stop : Stop)
@@ -114,5 +126,5 @@ pub AnswersAll-some : (mount mount' : SerialState) (frames : List (List ℕ)) (s
 AnswersAll-some mount mount' frames sink sink' all = record {
   put = all.put;
   appended = all.appended;
-  begun = BeginsServing-whole mount.config mount.state mount'.state frames all.put all.served;
+  begun = λ run came. let whole = all.served run came in BeginsServing-whole mount.config run whole.to frames all.put whole.served;
 }

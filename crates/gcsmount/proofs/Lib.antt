@@ -4,6 +4,3 @@ pub mod FrameLists
 pub mod PieceLaws
 pub mod ServeLaws
 pub mod Results
-pub mod TableLaws
-pub mod SerialLaws
-pub mod OtherRequests

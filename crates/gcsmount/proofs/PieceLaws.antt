@@ -9,11 +9,11 @@ use Rattle.fuse_frames.proofs.CutLemmas.{cuts_append, cuts_exist}
 use Rattle.fuse_frames.specs.declared.fault.CutFault.{CutFault}
 use Rattle.fuse_frames.specs.declared.fault.CutFault.TheVariants.{NoMemory, LenBelow40, LenOver, Truncated}
 use Rattle.mount_model.specs.declared.config.Config.{Config}
-use Rattle.mount_spec.specs.OneThread.{Serves, BeginsServing, first_state}
-use Rattle.mount_spec.proofs.RunLaws.{Serves-append, BeginsServing-after}
-use Rattle.gcsmount.specs.Answers.{AnswersAll, AnswersSome, IsCause}
+use Rattle.mount_core.specs.Serials.{SerialState}
+use Rattle.mount_rules.specs.OneThread.{BeginsServing, Serves, first_state}
+use Rattle.mount_laws.proofs.ServingLaws.{Serves-append, BeginsServing-after}
+use Rattle.gcsmount.specs.Answers.{AnswersAll, AnswersSome, IsCause, LeadsTo}
 use Rattle.io_ports.specs.Ports.{Port}
-use Rattle.gcsmount.specs.SerialState.{SerialState}
 use Rattle.gcsmount.specs.Serve.{Answered, CountsWrites, PartlyAnswered}
 use Rattle.gcsmount.specs.Serving.{HasServed, ServesPiece, PieceEnds, EndsIn, end_of, end_by}
 use Rattle.gcsmount.proofs.AnswerLaws.{AnswersAll-some, AnswersSome-more}
@@ -45,17 +45,23 @@ module _ (config : Config) (input put : List ℕ) (old : Cutter) (mount : Serial
 
   -- all replies up to and with these frames
   served_on : (held : List (List ℕ)) (mount' : SerialState) (sink sink' : Port) (all : AnswersAll mount mount' held sink sink')
-      → Serves config (first_state empty_bucket) (so_far.frames ++ held) (put ++ all.put) mount'.state
+      → LeadsTo (first_state empty_bucket) config (so_far.frames ++ held) (put ++ all.put) mount'
   served_on held mount' sink sink' all =
-      Serves-append config (first_state empty_bucket) mount.state mount'.state so_far.frames held put all.put so_far.served
-      (subst (λ c. Serves c mount.state held all.put mount'.state) so_far.settings all.served)
+      let on = all.served so_far.run so_far.came in
+      record {
+        to = on.to;
+        served =
+            Serves-append config (first_state empty_bucket) so_far.run on.to so_far.frames held put all.put so_far.served
+            (subst (λ c. Serves c so_far.run held all.put on.to) so_far.settings on.served);
+        came = on.came;
+      }
 
   -- the replies up to these frames, and a prefix of theirs
   begun_on : (held : List (List ℕ)) (sink sink' : Port) (some : AnswersSome mount held sink sink')
       → BeginsServing config (first_state empty_bucket) (so_far.frames ++ held) (put ++ some.put)
   begun_on held sink sink' some =
-      BeginsServing-after config (first_state empty_bucket) mount.state so_far.frames held put some.put so_far.served
-      (subst (λ c. BeginsServing c mount.state held some.put) so_far.settings some.begun)
+      BeginsServing-after config (first_state empty_bucket) so_far.run so_far.frames held put some.put so_far.served
+      (subst (λ c. BeginsServing c so_far.run held some.put) so_far.settings (some.begun so_far.run so_far.came))
 
   -- the place behind the frames that wait is that behind all whole frames
   placed : (held : List (List ℕ)) (given : ℕ) → given ≡ old.given → given + length (concat held) ≡ length (concat (so_far.frames ++ held))
@@ -65,7 +71,8 @@ module _ (config : Config) (input put : List ℕ) (old : Cutter) (mount : Serial
   answered_on : (held : List (List ℕ)) (rest : List ℕ) (mount' : SerialState) (sink sink' : Port)
       → Cuts (pending old ++ piece) held rest → (all : AnswersAll mount mount' held sink sink') → Answered config (input ++ piece) rest (put ++ all.put)
   answered_on held rest mount' sink sink' cut all =
-      record { frames = so_far.frames ++ held; cut = cut_on held rest cut; to = mount'.state; served = served_on held mount' sink sink' all }
+      let on = served_on held mount' sink sink' all in
+      record { frames = so_far.frames ++ held; cut = cut_on held rest cut; to = on.to; served = on.served }
 
   no_more : (held rest : List (List ℕ)) → held ≡ [] → rest ≡ held ++ rest
   no_more held rest none = sym (ap (λ front. front ++ rest) none)
@@ -107,7 +114,9 @@ module _ (config : Config) (input put : List ℕ) (old : Cutter) (mount : Serial
       none_waits = refl;
       given = placed mid.held mid.given fed.given;
       settings = all.config ∙ so_far.settings;
-      served = served_on mid.held mount' sink sink' all;
+      run = (served_on mid.held mount' sink sink' all).to;
+      came = (served_on mid.held mount' sink sink' all).came;
+      served = (served_on mid.held mount' sink sink' all).served;
     });
     faults = all.faults;
   }

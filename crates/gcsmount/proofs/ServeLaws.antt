@@ -10,10 +10,10 @@ use Rattle.fuse_frames.specs.Cut.{Cuts, HasNoBadLen, IsUnfinished}
 use Rattle.fuse_frames.specs.Cutter.{Cutter, fed, fresh}
 use Rattle.fuse_frames.proofs.FrontLemmas.{sound_not_bad, unfinished_untold}
 use Rattle.mount_model.specs.declared.config.Config.{Config}
-use Rattle.mount_spec.specs.OneThread.{Serves, first_state}
-use Rattle.mount_spec.proofs.RunLaws.{BeginsServing-nothing, Serves-nil}
+use Rattle.mount_core.specs.Serials.{CameTo, SerialState, first_serial}
+use Rattle.mount_rules.specs.OneThread.{first_state}
+use Rattle.mount_laws.proofs.ServingLaws.{BeginsServing-nothing, Serves-nil}
 use Rattle.io_ports.specs.Ports.{Port}
-use Rattle.gcsmount.specs.SerialState.{SerialState}
 use Rattle.gcsmount.specs.Serve.{Answered, CountsReads, CountsWrites, EndsBy, Streams, longest_input}
 use Rattle.gcsmount.specs.Serving.{EndsIn, FinishesBy, HasServed, PieceEnds, Progress, ServesOn, StopsAfter}
 use Rattle.gcsmount.specs.declared.serve_end.ServeEnd.{ServeEnd}
@@ -105,7 +105,7 @@ ServesOn-past config input put buffer taken count counted cutter mount sink sink
         record {
           frames = on.on.frames;
           cut = subst (λ whole. Cuts whole on.on.frames cutter.rest) cut on.on.cut;
-          to = mount.state;
+          to = on.on.run;
           served = on.on.served;
         },
       );
@@ -138,8 +138,8 @@ cuts_nothing = record { joined = refl; whole = λ k d none. absurd (let never : 
 
 -- nothing was taken yet
 pub Progress-first : (config : Config) (source sink : Port) (cutter : Cutter) (mount : SerialState)
-    → cutter ≡ fresh → mount.config ≡ config → mount.state ≡ first_state empty_bucket → Progress config source source sink sink 0 cutter mount
-Progress-first config source sink cutter mount new settings first = record {
+    → cutter ≡ fresh → mount ≡ first_serial config empty_bucket → Progress config source source sink sink 0 cutter mount
+Progress-first config source sink cutter mount new first = record {
   input = [];
   put = [];
   consumed = Consumes-nil source.bytes;
@@ -154,8 +154,10 @@ Progress-first config source sink cutter mount new settings first = record {
     sound = nothing_bad;
     none_waits = refl;
     given = refl;
-    settings = settings;
-    served = subst (Serves config (first_state empty_bucket) [] []) (sym first) (Serves-nil config (first_state empty_bucket));
+    settings = ap (λ (m : SerialState). m.config) first;
+    run = first_state empty_bucket;
+    came = subst (CameTo (first_state empty_bucket)) (sym first) (record { mount = refl; store = record { bucket = refl; made = refl } });
+    served = Serves-nil config (first_state empty_bucket);
   });
 }
 
@@ -193,7 +195,7 @@ module _ (config : Config) (source amid sink between : Port) (taken : ℕ) (cutt
   }
 
   answered : Answered config so_far.input cutter.rest so_far.put
-  answered = record { frames = so_far.served.frames; cut = so_far.served.cut; to = mount.state; served = so_far.served.served }
+  answered = record { frames = so_far.served.frames; cut = so_far.served.cut; to = so_far.served.run; served = so_far.served.served }
 
   input_fits : length so_far.input ≤ longest_input
   input_fits = omega (arith, so_far.counted, so_far.within)
@@ -254,7 +256,7 @@ module _ (config : Config) (source amid sink between : Port) (taken : ℕ) (cutt
         record {
           frames = so_far.served.frames;
           cut = subst (λ rest. Cuts so_far.input so_far.served.frames rest) finish so_far.served.cut;
-          to = mount.state;
+          to = so_far.served.run;
           served = so_far.served.served;
         },
       )
@@ -265,7 +267,7 @@ module _ (config : Config) (source amid sink between : Port) (taken : ℕ) (cutt
         record {
           frames = so_far.served.frames;
           cut = subst (λ input. Cuts input so_far.served.frames cutter.rest) (sym whole) so_far.served.cut;
-          to = mount.state;
+          to = so_far.served.run;
           served = so_far.served.served;
         },
         omega (arith, at_is, so_far.served.given, ap (λ held. length (concat held)) so_far.served.none_waits),

@@ -6,7 +6,7 @@ use Rattle.bucket_api.specs.BucketState.{empty_bucket}
 use Rattle.fuse_frames.specs.Cut.{Cuts, IsBelow40, IsOver, HasNoBadLen}
 use Rattle.io_ports.specs.Faults.{Rose}
 use Rattle.mount_model.specs.declared.config.Config.{Config}
-use Rattle.mount_spec.specs.OneThread.{RunState, first_state, Serves, BeginsServing}
+use Rattle.mount_rules.specs.OneThread.{RunState, first_state, Serves, BeginsServing}
 use Rattle.io_ports.specs.Ports.{Port}
 use Rattle.gcsmount.specs.declared.serve_end.ServeEnd.{ServeEnd}
 use Rattle.gcsmount.specs.declared.serve_end.ServeEnd.TheVariants.{Ended, Refused, ReadFault, WriteFault, NoMemory, TooLong}

@@ -6,9 +6,9 @@ use Rattle.bucket_api.specs.BucketState.{empty_bucket}
 use Rattle.fuse_frames.specs.Cut.{Cuts, IsBelow40, IsOver, HasNoBadLen}
 use Rattle.fuse_frames.specs.Cutter.{Cutter, place}
 use Rattle.mount_model.specs.declared.config.Config.{Config}
-use Rattle.mount_spec.specs.OneThread.{first_state, Serves}
+use Rattle.mount_core.specs.Serials.{CameTo, SerialState}
+use Rattle.mount_rules.specs.OneThread.{RunState, Serves, first_state}
 use Rattle.io_ports.specs.Ports.{Port}
-use Rattle.gcsmount.specs.SerialState.{SerialState}
 use Rattle.gcsmount.specs.Serve.{Answered, CountsReads, CountsWrites, EndsBy, PartlyAnswered, longest_input, place_of}
 use Rattle.fuse_frames.specs.declared.fault.CutFault.{CutFault}
 use Rattle.fuse_frames.specs.declared.fault.CutFault.TheVariants as cut
@@ -25,7 +25,9 @@ pub record HasServed (config : Config) (input put : List ℕ) (cutter : Cutter) 
   pub none_waits : cutter.held ≡ []
   pub given : cutter.given ≡ length (concat frames)
   pub settings : mount.config ≡ config
-  pub served : Serves config (first_state empty_bucket) frames put mount.state
+  pub run : RunState
+  pub came : CameTo run mount
+  pub served : Serves config (first_state empty_bucket) frames put run
 
 -- the bytes begin with a bad len: 15 where it is below 40, 16 where it is above 135,168
 abbrev pub IsBadLen : ℕ → List ℕ → Type 0

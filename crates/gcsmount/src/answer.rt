@@ -1,3 +1,4 @@
+//! Frames are answered: each request is performed, and the frame of its reply put.
 ghost use Rattle.std.specs.Prelude.{◌≡◌, ◌∷◌, [], IfOk, IfErr, OnOk, OnErr};
 ghost use Rattle.std.specs.Io.KnownBytes.{Appends};
 ghost use Rattle.fuse_frames.specs.Cutter.{place};
@@ -5,15 +6,14 @@ ghost use Rattle.fuse_head.specs.Head.{IsWholeFrame};
 ghost use Rattle.fuse_requests.specs.Grammar.{without_spare, request_of};
 ghost use Rattle.io_ports.specs.Faults.{Rose};
 ghost use Rattle.io_ports.specs.Streams.{AppendsPrefix};
-ghost use Rattle.mount_spec.specs.OneThread.{Serves};
-ghost use Rattle.gcsmount.specs.Answers.{Answers};
+ghost use Rattle.gcsmount.specs.Answers.{Answers, ServesFrames};
 
-use crate::serial::Serial;
 use fuse_frames::FrameCutter;
 use fuse_head::head_of;
 use fuse_replies::write_reply;
 use fuse_requests::{BodyFault, Request, read_request};
 use io_ports::{Bytes, Failed, NoMemory, Sink};
+use mount_core::Serial;
 use std::alloc::Global;
 
 /// Why no further frame is answered.
@@ -63,7 +63,7 @@ pub(crate) fn answer_waiting<W: Sink>(
 // Performs the request of a frame, and writes the frame of its reply.
 fn reply_to(alloc: Global, serial: &mut Serial, frame: &[u8]) -> Result<Bytes, NoMemory>
     requires { IsWholeFrame frame.now }
-    ensures ok { IfOk result (λ text. Serves serial.old.config serial.old.state (frame.now ∷ []) text serial.new.state) }
+    ensures ok { IfOk result (λ text. ServesFrames serial.old (frame.now ∷ []) text serial.new) }
     ensures config { serial.new.config ≡ serial.old.config }
 {
     let request = request_in(alloc, frame)?;

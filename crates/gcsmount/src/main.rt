@@ -2,26 +2,15 @@
 #![tactic(auto)]
 
 mod answer;
-mod attributes;
-mod create;
-mod init;
-mod lookup;
-mod names;
-mod node_table;
-mod nodes;
-mod refusals;
-mod serial;
 mod serve;
 mod serve_end;
 mod server;
-mod store;
 #[cfg(test)]
 mod tests;
 mod tool;
 
 use io_ports::{StdSink, StdSource, Text};
 use mount_model::IdleGate;
-pub use serial::Serial;
 pub use serve::serve_stream;
 pub use serve_end::ServeEnd;
 use std::io::ErrorKind;

@@ -1,3 +1,4 @@
+//! A stream of request frames is served to its end.
 ghost use Rattle.std.specs.Prelude.{◌≡◌, ◌≤◌, ◌+◌, ℕ, List, IfOk, OnOk, OnErr, length, take, vec_len};
 ghost use Rattle.std.specs.Io.KnownBytes.{Consumes, IsAtEnd, Keeps};
 ghost use Rattle.io_ports.specs.Faults.{Rose};
@@ -7,12 +8,12 @@ ghost use Rattle.fuse_frames.specs.Cutter.{fed};
 ghost use Rattle.gcsmount.specs.Serve.{IsComplete, Streams, longest_input};
 ghost use Rattle.gcsmount.specs.Serving.{FinishesBy, HasServed, ServesTaken};
 
-use crate::serial::Serial;
 use crate::serve_end::ServeEnd;
 use crate::server::{end_of, serve_piece};
 use bucket_plain::Plain;
 use fuse_frames::FrameCutter;
 use io_ports::{Failed, NoMemory, Sink, Source};
+use mount_core::Serial;
 use mount_model::Config;
 use std::alloc::Global;
 
@@ -43,6 +44,7 @@ fn serve_input<R: Source, W: Sink>(
     source: &mut R,
     sink: &mut W,
 ) -> ServeEnd
+    requires { IsConfig config.now }
     ensures streams { Streams config.now result (R.port source.old) (R.port source.new) (W.port sink.old) (W.port sink.new) }
 {
     let Ok(mut buffer) = piece_buffer(alloc) else {

@@ -1,3 +1,4 @@
+//! The ends that serving a stream may have, each with its cause.
 /// How serving a stream ended.
 #[derive(Clone, Copy, Debug, PartialEq, Eq)]
 pub enum ServeEnd {

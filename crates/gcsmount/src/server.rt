@@ -1,3 +1,4 @@
+//! One piece of the input is cut into frames and answered.
 ghost use Rattle.std.specs.Prelude.{◌≡◌, ◌≤◌, ◌+◌, ◌^◌, ℕ, List, length};
 ghost use Rattle.fuse_frames.specs.Cutter.{fed};
 ghost use Rattle.mount_model.specs.declared.config.Config.{Config};
@@ -5,10 +6,10 @@ ghost use Rattle.gcsmount.specs.Serving as serving;
 ghost use Rattle.gcsmount.specs.Serving.{HasServed, ServesPiece};
 
 use crate::answer::{Stop, answer_waiting};
-use crate::serial::Serial;
 use crate::serve_end::ServeEnd;
 use fuse_frames::{CutFault, FrameCutter};
 use io_ports::Sink;
+use mount_core::Serial;
 use std::alloc::Global;
 
 /// Serves one more piece of the input: cuts it, and answers the frames that are whole by now.

@@ -1,5 +1,4 @@
 mod files;
-mod lookups;
 mod streams;
 
 use crate::tool::run_tool;

@@ -1,3 +1,4 @@
+//! The top call: the words of the command line, what is told of an end, and the status.
 ghost use Rattle.std.specs.Prelude.{◌≡◌, ◌≢◌, ◌↔◌, IfOk, IsTrue, codes, string_bytes};
 ghost use Rattle.gcsmount.specs.Tool.{EndsWith, IsServedWhole, RunsServe, Tells, refused_line, serve_words, usage_line};
 

@@ -1,5 +1,6 @@
 //! Files are made, found and forgotten.
 use super::{INIT, INIT_DONE, Ports, SOUND, joined, serves};
+use std::alloc::Global;
 use std::test::Fail;
 
 /// CREATE of `f` in node 1, unique 2.
@@ -137,12 +138,12 @@ const TOO_LONG: &str =
 61616161616161616161616161616161616161616161616161616161616161616161616161616161\
 6161616161616161616161616161616100";
 
-/// The replies to the last eight: ENOSYS for a name that is not plain and for another node, EINVAL for a body outside the
-/// grammar, and ENOENT for the longest name.
+/// The replies to the last eight: EINVAL for a name that is no component and for a body outside the grammar, ESTALE for a
+/// node that was never given, ENOENT for names that no object has, and ENAMETOOLONG.
 const REFUSALS: &str =
-    "10000000daffffff090000000000000010000000daffffff0a0000000000000010000000daffffff\
-0b0000000000000010000000daffffff0c0000000000000010000000daffffff0d00000000000000\
-10000000eaffffff0e0000000000000010000000feffffff0f0000000000000010000000daffffff\
+    "10000000eaffffff0900000000000000100000008cffffff0a0000000000000010000000feffffff\
+0b0000000000000010000000eaffffff0c0000000000000010000000eaffffff0d00000000000000\
+10000000eaffffff0e0000000000000010000000feffffff0f0000000000000010000000dcffffff\
 1000000000000000";
 
 #[test]
@@ -180,7 +181,7 @@ fn a_node_lasts_while_it_is_looked_up(rt: HostRuntime) -> Result<(), Fail> {
 }
 
 #[test]
-fn names_that_are_not_plain_are_refused(rt: HostRuntime) -> Result<(), Fail> {
+fn names_that_are_no_components_are_refused(rt: HostRuntime) -> Result<(), Fail> {
     let alloc = rt.alloc();
     let names = joined(alloc, &[LOOKUP_DOTS, LOOKUP_BELOW, LOOKUP_WIDE])?;
     let others = joined(alloc, &[CREATE_SLASH, CREATE_NOTHING, LOOKUP_TAIL])?;
@@ -191,4 +192,34 @@ fn names_that_are_not_plain_are_refused(rt: HostRuntime) -> Result<(), Fail> {
     )?;
     let wanted = joined(alloc, &[INIT_DONE, REFUSALS])?;
     serves(&rt, alloc, input.as_str(), SOUND, (0, wanted.as_str(), ""))
+}
+
+fn repeated(alloc: Global, part: &str, times: usize) -> Result<String, Fail> {
+    let mut all = String::new(alloc);
+    for _ in 0..times {
+        all.push_str(part)?;
+    }
+    Ok(all)
+}
+
+// Each look-up asks the bucket twice, and the refusal is told with the place of a frame that is far from the front.
+#[test]
+fn a_long_run_is_served_to_the_frame_that_is_cut(rt: HostRuntime) -> Result<(), Fail> {
+    let alloc = rt.alloc();
+    let looked = repeated(alloc, LOOKUP_F, 2_500)?;
+    let input = joined(alloc, &[INIT, CREATE_F, looked.as_str(), "28000000"])?;
+    let shown = repeated(alloc, NODE_2, 2_500)?;
+    let wanted = joined(alloc, &[INIT_DONE, CREATED, shown.as_str()])?;
+    let ports = Ports {
+        room: 1_000_000,
+        ..SOUND
+    };
+    let told = "refused 17 at 105114\n";
+    serves(
+        &rt,
+        alloc,
+        input.as_str(),
+        ports,
+        (1, wanted.as_str(), told),
+    )
 }

@@ -1,6 +1,6 @@
 -- The frame that waited longest is answered next.
-use Rattle.std.proofs.Common.{◌≡◌, ◌++◌, ◌∷◌, [], length, sym, ap, ◌∙◌, arith}
-use Rattle.gcsmount.proofs.AnswerLaws.{AnswersAll-then, Answers-stopped}
+use Rattle.std.proofs.Common.{◌≡◌, ◌++◌, ◌∷◌, [], length, refl, sym, ap, ◌∙◌, arith}
+use Rattle.gcsmount.proofs.AnswerLaws.{AnswersAll-nothing, AnswersAll-then, Answers-stopped}
 use Rattle.gcsmount.proofs.FrameLists.{length-concat-push, split-next}
 use Rattle.gcsmount.proofs.answer.answer_waiting.Goals as goal
 
@@ -24,3 +24,6 @@ loop-frame-preserved g c =
       rest = c.in-Some.ensures.answer.rest ∙ c.loop-frame.invariant.rest;
       answered = AnswersAll-then _ _ _ _ _ _ _ _ c.loop-frame.invariant.answered c.in-Ok.ensures.answers;
     }
+
+pub loop-frame-init : goal.loop-frame-init
+loop-frame-init g c = record { done = []; split = refl; given = omega arith; rest = refl; answered = AnswersAll-nothing _ _ }

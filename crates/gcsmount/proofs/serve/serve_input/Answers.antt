@@ -1,9 +1,10 @@
 -- Each turn serves one more piece, and each end is one of the stream.
-use Rattle.std.proofs.Common.{◌≡◌, ◌≤◌, ◌++◌, List, ℕ, length, take, drop, ◌∙◌, subst, arith, length-append, length-take}
+use Rattle.std.proofs.Common.{◌≡◌, ◌≤◌, ◌++◌, List, ℕ, length, take, drop, ap, ◌∙◌, subst, arith, length-append, length-take}
 use Rattle.std.proofs.lemmas.List.{take_at}
 use Rattle.gcsmount.specs.Serve.{longest_input}
 use Rattle.gcsmount.specs.Serving.{ServesOn, StopsAfter}
-use Rattle.gcsmount.proofs.ServeLaws.{Progress-on, Streams-finished, Streams-nothing, Streams-read_fault, Streams-stopped}
+use Rattle.mount_core.specs.Serials.{first_serial}
+use Rattle.gcsmount.proofs.ServeLaws.{Progress-first, Progress-on, Streams-finished, Streams-nothing, Streams-read_fault, Streams-stopped}
 use Rattle.gcsmount.proofs.serve.serve_input.Goals as goal
 
 pub returns-in_default : goal.returns-in_default
@@ -56,4 +57,10 @@ returns-in-Err-serve_taken g c = record {
       Streams-stopped _ _ _ _ _ _ _ _ so_far _ _ _ (take count c.take_piece.new.buffer) c.in-Ok-take_piece.ensures.bytes c.in-Ok-take_piece.ensures.held
       (omega (arith, length-append so_far.input (take count c.take_piece.new.buffer), length-take count c.take_piece.new.buffer, so_far.counted, c.in-Ok-take_piece.ensures.bound))
       (subst (λ (buffer : List ℕ). StopsAfter c.args.config.now c.in-Err-serve_taken.end so_far.input so_far.put (take count buffer) (g.W.Sink.port c.loop-cutter.sink) (g.W.Sink.port c.serve_taken.new.sink)) written stops);
+}
+
+pub loop-cutter-init : goal.loop-cutter-init
+loop-cutter-init g c = record {
+  buffer = c.in-Ok.ensures.ok;
+  so_far = Progress-first _ _ _ _ _ c.new-cutter.ensures.answer (c.in-Ok-new.ensures.ok ∙ ap (first_serial c.args.config.now) c.new.ensures);
 }

@@ -1,7 +1,0 @@
--- The keys of no pairs rise.
-use Rattle.std.specs.List.Sorted.{IsStrictlySortedBy}
-use Rattle.gcsmount.proofs.tests.lookups.no_pairs.Goals as goal
-
-pub returns : goal.returns
-unfolding IsStrictlySortedBy
-returns c = rw c.new.ensures.items tt

@@ -1,7 +1,0 @@
--- One pair was pushed to none, and the keys of one pair rise.
-use Rattle.std.specs.List.Sorted.{IsStrictlySortedBy}
-use Rattle.gcsmount.proofs.tests.lookups.target.Goals as goal
-
-pub returns : goal.returns
-unfolding IsStrictlySortedBy
-returns c = rw (c.push.ensures.items, c.in_ok-reserve.ensures.kept, c.new-pairs.ensures.items) (tt, tt)

@@ -1,9 +1,0 @@
-pub mod RunLaws
-pub mod RequestLaws
-pub mod NameLaws
-pub mod LookupLaws
-pub mod CreateLaws
-pub mod RuleLaws
-pub mod MemoryLaws
-pub mod NumberLaws
-pub mod CountLaws
