@@ -12,7 +12,7 @@ import sys
 import tempfile
 import time
 
-INIT, STATFS, CREATE, WRITE = 26, 17, 35, 16
+LOOKUP, WRITE, STATFS, INIT, OPENDIR, READDIR, CREATE = 1, 16, 17, 26, 27, 28, 35
 
 
 def frame(opcode, unique, node, body=b""):
@@ -27,9 +27,28 @@ def statfs_stream(count):
     return init() + b"".join(frame(STATFS, 2 + n, 1) for n in range(count))
 
 
+def create(unique, name):
+    return frame(CREATE, unique, 1, struct.pack("<IIII", 0, 0o100644, 0, 0) + name + b"\0")
+
+
+def create_stream(count):
+    return init() + b"".join(create(2 + n, b"f%d" % n) for n in range(count))
+
+
+def lookup_stream(count):
+    return init() + create(2, b"f") + b"".join(frame(LOOKUP, 3 + n, 1, b"f\0") for n in range(count))
+
+
+def listing_stream(count):
+    """Makes so many files, opens their directory and reads it whole, 4,096 bytes at a time (128 entries)."""
+    opened = frame(OPENDIR, 2 + count, 1, struct.pack("<II", 0, 0))
+    places = (struct.pack("<QQIIQII", 1 + count, place, 4096, 0, 0, 0, 0) for place in range(0, count, 128))
+    return create_stream(count) + opened + b"".join(frame(READDIR, 3 + count + n, 1, at) for n, at in enumerate(places))
+
+
 def write_stream(count):
     content = b"a" * 131072
-    made = frame(CREATE, 2, 1, struct.pack("<IIII", 0, 0o100644, 0, 0) + b"f\0")
+    made = create(2, b"f")
     places = (struct.pack("<QQIIQII", 1, n * 131072 % (1 << 24), 131072, 0, 0, 0, 0) for n in range(count))
     return init() + made + b"".join(frame(WRITE, 3 + n, 2, place + content) for n, place in enumerate(places))
 
@@ -63,6 +82,9 @@ def main():
     runs = int(sys.argv[2]) if len(sys.argv) > 2 else 5
     measure("STATFS", statfs_stream, 500_000, program, runs)
     measure("WRITE of 128 KiB", write_stream, 400, program, runs)
+    measure("LOOKUP", lookup_stream, 200_000, program, runs)
+    measure("CREATE", create_stream, 200_000, program, runs)
+    measure("CREATE, OPENDIR and READDIR", listing_stream, 20_000, program, runs)
 
 
 if __name__ == "__main__":
