@@ -1,3 +1,4 @@
+-- The laws that the proofs of `claims` cite.
 pub mod NameWrites
 pub mod TallySums
 pub mod TallyMaps

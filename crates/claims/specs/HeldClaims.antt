@@ -56,6 +56,12 @@ pub record IsReserved (table : HeldClaims) (more : ℕ) : Type 0 where
   pub nodes : more ≤ table.nodes
   pub names : min more 64 ≤ table.names
 
+-- there is room for no fewer calls and claims than before
+pub record HasAsMuchRoom (old new : HeldClaims) : Type 0 where
+  pub calls : old.calls ≤ new.calls
+  pub nodes : old.nodes ≤ new.nodes
+  pub names : old.names ≤ new.names
+
 -- ---- what calls of the table make of it
 -- nothing is held, and there is no room
 abbrev pub no_claims : HeldClaims

@@ -1,4 +1,5 @@
-ghost use Rattle.std.specs.Prelude.{◌≡◌, ◌≤◌, length, string_bytes};
+//! Strings with room for any name, made before they are wanted.
+ghost use Rattle.std.specs.Prelude.{◌≡◌, ◌≤◌, length, string_bytes, IfOk};
 
 use io_ports::NoMemory;
 use std::alloc::Global;
@@ -26,7 +27,9 @@ impl Model for NameBuffer {
 
 impl NameBuffer {
     /// A buffer. `NoMemory` where memory for it was refused.
-    pub fn new(alloc: Global) -> Result<NameBuffer, NoMemory> {
+    pub fn new(alloc: Global) -> Result<NameBuffer, NoMemory>
+        ensures ok { IfOk result (λ buffer. 1024 ≤ buffer) }
+    {
         let text = String::with_capacity(alloc, LONGEST_NAME)?;
         Ok(NameBuffer { text })
     }

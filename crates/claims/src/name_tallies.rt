@@ -1,3 +1,4 @@
+//! How many claims are on each name, with room that is made before it is used.
 ghost use Rattle.std.specs.Prelude.{◌≡◌, ◌≤◌, ◌<◌, ◌+◌, ◌-◌, ◌^◌, ℕ, List, OnOk, OnErr, IsSome, length, vec_len, if◌then◌else◌};
 ghost use Rattle.std.specs.FinMap as fin;
 ghost use Rattle.std.specs.Str.{bytes_eq};
@@ -52,10 +53,13 @@ impl NameTallies {
         }
     }
 
-    /// Makes room: afterwards at least `more` further names are put. `NoMemory` where memory for them was refused.
+    /// Makes room: afterwards at least `more` further names are put, and never fewer than before. `NoMemory` where memory
+    /// for them was refused, which comes only where `more` is above the spare.
     pub fn reserve(&mut self, more: u64) -> Result<(), NoMemory>
         ensures ok { OnOk result (more ≤ self.new.spare) }
         ensures err { OnErr result (self.new.spare ≡ self.old.spare) }
+        ensures full { OnErr result (self.old.spare < more) }
+        ensures spare { self.old.spare ≤ self.new.spare }
         ensures kept { self.new.map ≡ self.old.map }
     {
         if more > self.room {

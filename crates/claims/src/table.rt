@@ -1,6 +1,7 @@
-ghost use Rattle.std.specs.Prelude.{◌≡◌, ◌↔◌, false, IsTrue, IsSome, OnOk, IfOk, IfErr, IsErr};
+//! The table of the claims that calls hold.
+ghost use Rattle.std.specs.Prelude.{◌≡◌, ◌↔◌, false, IsTrue, IsSome, OnOk, OnErr, IfOk, IfErr, IsErr};
 ghost use Rattle.std.specs.FinMap as fin;
-ghost use Rattle.claims.specs.HeldClaims.{HasRoom, IsReserved, IsTable, Adds, no_claims, dropped, any_conflict_held};
+ghost use Rattle.claims.specs.HeldClaims.{HasRoom, IsReserved, HasAsMuchRoom, IsTable, Adds, no_claims, dropped, any_conflict_held};
 
 use crate::tallies::Tallies;
 use claim_spec::Claim;
@@ -68,9 +69,12 @@ impl Claims {
     }
 
     /// Makes room: afterwards the table takes at least `more` further calls and `more` further claims, of which at least
-    /// 64 may be on names, or all of them where they are fewer. `NoMemory` where memory for them was refused.
+    /// 64 may be on names, or all of them where they are fewer, and never fewer than before. `NoMemory` where memory for
+    /// them was refused, which comes only where there is less room than that.
     pub fn reserve(&mut self, more: u64) -> Result<(), NoMemory>
         ensures ok { OnOk result (IsReserved self.new more) }
+        ensures full { OnErr result (¬ IsReserved self.old more) }
+        ensures spare { HasAsMuchRoom self.old self.new }
         ensures kept { self.new ≡ record self.old { calls = self.new.calls; nodes = self.new.nodes; names = self.new.names } }
     {
         self.calls.reserve(more)?;

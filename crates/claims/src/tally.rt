@@ -1,3 +1,4 @@
+//! How many claims are on one key.
 ghost use Rattle.std.specs.Prelude.{◌≡◌, ◌+◌, ◌<◌, ◌^◌, ◌↔◌, IsTrue};
 ghost use Rattle.claims.specs.TallyWords.{no_tally, one_tally, plus, less, tally_conflict};
 

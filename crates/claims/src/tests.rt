@@ -1,3 +1,4 @@
+//! Tests of the table: pairs of claims on one key, names beside nodes, claims after a drop, many calls, and much room.
 ghost use Rattle.std.specs.Prelude.{◌≡◌, ◌<◌, ◌≤◌, ◌+◌, ◌*◌, ◌^◌, [], ◌∷◌, length, IfOk};
 
 use crate::{Claim, ClaimKey, Claims};
@@ -149,6 +150,15 @@ fn a_thousand_calls_hold_their_own(rt: HostRuntime) -> Result<(), Fail> {
     let mut table = Claims::new(rt.alloc());
     assert_eq!(rt; hold_many(rt.alloc(), &mut table, 1000)?, 1000);
     assert!(rt; !try_node(rt.alloc(), &mut table, 500, false)?);
+    Ok(())
+}
+
+#[test]
+fn room_is_made_for_many_claims_at_once(rt: HostRuntime) -> Result<(), Fail> {
+    let mut table = Claims::new(rt.alloc());
+    table.reserve(1_000)?;
+    table.reserve(10)?;
+    assert!(rt; table.reserve(u64::MAX).is_err());
     Ok(())
 }
 
