@@ -1,6 +1,7 @@
 //! Tests of the table: worked examples, ends of ranges, and that it may go to another thread.
 use crate::{Learned, Shown, StatRecords};
-use io_ports::Text;
+use bucket_api::Meta;
+use io_ports::{NoMemory, Row, Text};
 use std::alloc::Global;
 use std::marker::Send;
 use std::test::Fail;
@@ -11,6 +12,26 @@ fn learn(list: &mut StatRecords, alloc: Global, key: &str, moment: u64, tick: u6
         return Learned::NoMemory;
     };
     list.learn(&key, moment, tick, Shown::Absent)
+}
+
+/// What a bucket tells of an object of so many bytes.
+fn object(alloc: Global, size: u64) -> Result<Shown, NoMemory> {
+    Ok(Shown::Object(Meta {
+        name: Text::of(alloc, "f")?,
+        generation: 3,
+        metageneration: 2,
+        size,
+        updated: 7,
+        pairs: Row::new(alloc),
+    }))
+}
+
+/// The size of the object that is found.
+fn size_found(list: &mut StatRecords, key: &str) -> Option<u64> {
+    match list.find(key, 0, 10) {
+        Some((_, Shown::Object(meta))) => Some(meta.size),
+        _ => None,
+    }
 }
 
 /// The moment of the record that is found.
@@ -46,6 +67,21 @@ fn an_older_observation_is_not_revived(rt: HostRuntime) -> Result<(), Fail> {
     assert_eq!(rt; list.low(), 9);
     assert_eq!(rt; found(&mut list, "g", 0, 10), None);
     assert_eq!(rt; learn(&mut list, rt.alloc(), "g", 8, 0), Learned::Behind);
+    Ok(())
+}
+
+#[test]
+fn an_object_is_found_as_it_was_shown(rt: HostRuntime) -> Result<(), Fail> {
+    let mut list = StatRecords::new(rt.alloc(), 2)?;
+    let file = Text::of(rt.alloc(), "f")?;
+    let shown = object(rt.alloc(), 5)?;
+    assert_eq!(rt; list.learn(&file, 4, 0, shown), Learned::Kept);
+    let directory = Text::of(rt.alloc(), "f/")?;
+    let present = Shown::Present;
+    assert_eq!(rt; list.learn(&directory, 5, 0, present), Learned::Kept);
+    assert_eq!(rt; size_found(&mut list, "f"), Some(5));
+    assert_eq!(rt; size_found(&mut list, "f/"), None);
+    assert_eq!(rt; found(&mut list, "f/", 0, 10), Some(5));
     Ok(())
 }
 
