@@ -5,7 +5,8 @@ use Rattle.std.proofs.lemmas.List.{length-set, same_from_push}
 use Rattle.block_pool.specs.Chains.{Rises, below}
 use Rattle.block_pool.specs.Nodes.{node_at, walk, step, blocks_at, placed, chain_at, Has, Once, IsLinked, joined, cut_behind}
 use Rattle.block_pool.specs.declared.node.Node.{Node}
-use Rattle.block_pool.proofs.Lists.{from_either, Has-left, Has-right, Has-append, Once-append, Once-apart, Once-right, AllBelow, AllBelow-upto, AllFrom, AllFrom-above, Rises-left, Rises-right, below_between}
+use Rattle.block_pool.proofs.Lists.{from_either, Has-left, Has-right, Has-append, Once-append, Once-apart, Once-right, AllBelow, AllBelow-upto, AllFrom, AllFrom-above, Rises-left, Rises-right}
+use Rattle.block_pool.proofs.Lists.{below_between}
 use Rattle.block_pool.proofs.Walks.{walk_parts, walk_end, Has-step, walk_kept, walk_missed, walk_ended, node_at-same, node_at-other, part_kept, placed_same, placed-append, Once-rising, step_next}
 
 -- the chain keeps so many blocks, of which the last is at the place, and loses one and so many more
@@ -61,7 +62,8 @@ module _ (nodes : List Node) (first freed head place kept m : ℕ) (l : IsLinked
 
   pub cut_freed : walk other (suc m + freed) tail ≡ walk nodes (suc m) tail ++ walk nodes freed first
   cut_freed =
-      let not_earlier : ¬ (Has final (walk nodes m tail)) = λ h. Once-apart final (walk nodes m tail) (step nodes m tail ∷ []) (subst Once (walk_end nodes m tail) (Once-right (walk nodes kept head) (walk nodes (suc m) tail) once)) h (inl final_is) in
+      let not_earlier : ¬ (Has final (walk nodes m tail)) =
+      λ h. Once-apart final (walk nodes m tail) (step nodes m tail ∷ []) (subst Once (walk_end nodes m tail) (Once-right (walk nodes kept head) (walk nodes (suc m) tail) once)) h (inl final_is) in
       let v : Node = record (node_at nodes final) { next = first } in
       let ended = walk_ended nodes final v m tail not_earlier in
       let final_within = l.within head final final_in_chain in
@@ -73,7 +75,9 @@ module _ (nodes : List Node) (first freed head place kept m : ℕ) (l : IsLinked
       ∙ ap (λ bs. walk nodes (suc m) tail ++ bs) (walk_missed nodes final v freed first (λ h. l.not_freed head final h final_in_chain))
 
   positions : (b : ℕ) → (node_at other b).position ≡ (node_at nodes b).position
-  positions b = part_kept (λ n. n.position) n1 head (record (node_at n1 head) { count = kept; last = place }) refl b ∙ part_kept (λ n. n.position) nodes final (record (node_at nodes final) { next = first }) refl b
+  positions b =
+      part_kept (λ n. n.position) n1 head (record (node_at n1 head) { count = kept; last = place }) refl b
+      ∙ part_kept (λ n. n.position) nodes final (record (node_at nodes final) { next = first }) refl b
 
   pub cut_chain : chain_at other head ≡ placed nodes (walk nodes kept head)
   cut_chain = ap (placed other) cut_blocks ∙ placed_same nodes other (walk nodes kept head) (λ b h. positions b)

@@ -99,7 +99,8 @@ few_freed nodes first freed l = subst (λ n. n ≤ length nodes) (length-walk no
 
 pub room_for : (nodes : List Node) (first freed head block : ℕ) → IsLinked nodes first freed → IsLoose nodes first freed block → (node_at nodes head).count + 1 ≤ length nodes
 room_for nodes first freed head block l loose =
-    let all : length (block ∷ blocks_at nodes head) ≤ length nodes = length-once (length nodes) (block ∷ blocks_at nodes head) (loose.in_no_chain head, Once-rising nodes (blocks_at nodes head) (l.rising head)) within in
+    let all : length (block ∷ blocks_at nodes head) ≤ length nodes =
+    length-once (length nodes) (block ∷ blocks_at nodes head) (loose.in_no_chain head, Once-rising nodes (blocks_at nodes head) (l.rising head)) within in
     omega (arith, all, length-walk nodes (node_at nodes head).count head)
   where
     within : (b : ℕ) → Has b (block ∷ blocks_at nodes head) → b < length nodes
@@ -223,8 +224,10 @@ same_state : (chains other : ChainMap ℕ) (used length : ℕ) (freed walked : L
     → ◌≡◌ {A = LinkState} (record { chains = chains; used = used; freed = freed; blocks = blocks }) (record { chains = other; used = length; freed = walked; blocks = blocks })
 same_state chains other used length freed walked blocks e f g i = record { chains = e i; used = f i; freed = g i; blocks = blocks }
 
-pub state-relinked : (nodes other : List Node) (first freed blocks old new block position : ℕ) → IsLinked nodes first freed → IsLoose nodes first freed block → Relinks nodes other first freed old new block position
-    → link_state other first freed blocks ≡ record (link_state nodes first freed blocks) { chains = replaced (all_chains nodes) (Some old) (Some new) (inserted (entries_of (all_chains nodes) (Some old)) position block) }
+pub state-relinked : (nodes other : List Node) (first freed blocks old new block position : ℕ) → IsLinked nodes first freed → IsLoose nodes first freed block
+    → Relinks nodes other first freed old new block position
+    → link_state other first freed blocks
+    ≡ record (link_state nodes first freed blocks) { chains = replaced (all_chains nodes) (Some old) (Some new) (inserted (entries_of (all_chains nodes) (Some old)) position block) }
 state-relinked nodes other first freed blocks old new block position l loose r =
     same_state _ _ _ _ _ _ blocks (all_chains-relinked nodes other first freed old new block position l loose r) r.len r.freed_same
 

@@ -6,7 +6,8 @@ use Rattle.block_pool.specs.Chains.{AllAbove, Rises, inserted}
 use Rattle.block_pool.specs.Nodes.{node_at, walk, step, blocks_at, placed, chain_at, Has, Once, IsLinked, IsLoose, put_before, pointed, joined, put_behind}
 use Rattle.block_pool.specs.declared.node.Node.{Node}
 use Rattle.block_pool.proofs.Lists.{Has-left, Has-right, Has-inside, Once-apart, Once-left, AllBelow, AllBelow-upto, AllAbove-lower, Rises-left, Rises-right, inserted_between, Rises-between}
-use Rattle.block_pool.proofs.Walks.{walk_parts, walk_end, Has-step, Has-head, walk_kept, walk_missed, walk_ended, node_at-same, node_at-other, part_kept, placed_same, placed-append, Once-rising, step_next}
+use Rattle.block_pool.proofs.Walks.{walk_parts, walk_end, Has-step, Has-head, walk_kept, walk_missed, walk_ended, node_at-same, node_at-other, part_kept, placed_same, placed-append, Once-rising}
+use Rattle.block_pool.proofs.Walks.{step_next}
 use Rattle.block_pool.proofs.Relinking.{Relinks}
 
 -- ---- before the first block
@@ -31,7 +32,8 @@ Relinks-before nodes first freed head block position k l loose there lt =
     ∙ ap (λ bs. block ∷ bs) (same_walk f.count head (loose.in_no_chain head)) in
     let chain : chain_at other block ≡ (position, block) ∷ chain_at nodes head =
     ap (placed other) blocks ∙ ap (λ n. (n.position, block) ∷ placed other (blocks_at nodes head)) new_here
-    ∙ ap (λ es. (position, block) ∷ es) (placed_same nodes other (blocks_at nodes head) (λ b h. positions n1 w b head_stays (λ p. loose.in_no_chain head (subst (λ c. Has c (blocks_at nodes head)) p h)))) in
+    ∙ ap (λ es. (position, block) ∷ es)
+    (placed_same nodes other (blocks_at nodes head) (λ b h. positions n1 w b head_stays (λ p. loose.in_no_chain head (subst (λ c. Has c (blocks_at nodes head)) p h)))) in
     let above : AllAbove position (chain_at nodes head) = all_above f.count there (l.rising head) in
     record {
       len = length-set n1 head w ∙ length-set nodes block v;
@@ -49,7 +51,8 @@ Relinks-before nodes first freed head block position k l loose there lt =
     plus_one : (n : ℕ) → n + 1 ≡ suc n
     plus_one n = omega arith
 
-    positions : (n1 : List Node) (w : Node) (b : ℕ) → node_at (set nodes block (record { position = position; next = head; last = (node_at nodes head).last; count = (node_at nodes head).count + 1 })) head ≡ node_at nodes head
+    positions : (n1 : List Node) (w : Node) (b : ℕ)
+        → node_at (set nodes block (record { position = position; next = head; last = (node_at nodes head).last; count = (node_at nodes head).count + 1 })) head ≡ node_at nodes head
         → b ≢ block → (node_at (put_before nodes head block position) b).position ≡ (node_at nodes b).position
     positions n1 w b stays n =
         part_kept (λ n. n.position) (set nodes block (record { position = position; next = head; last = (node_at nodes head).last; count = (node_at nodes head).count + 1 })) head
@@ -176,7 +179,8 @@ module _ (nodes : List Node) (first freed head block position k m : ℕ) (l : Is
   kept : {X : Type 0} (part : Node → X) → ((n : Node) (next : ℕ) → part (record n { next = next }) ≡ part n) → ((n : Node) (count last : ℕ) → part (record n { count = count; last = last }) ≡ part n)
       → (b : ℕ) → part (node_at other b) ≡ part (node_at n1 b)
   kept part by_next by_bound b =
-      part_kept part n2 head (record (node_at n2 head) { count = (node_at nodes head).count + 1; last = cond (nat_eq place (node_at nodes head).last) block (node_at nodes head).last }) (by_bound (node_at n2 head) _ _) b
+      part_kept part n2 head (record (node_at n2 head) { count = (node_at nodes head).count + 1; last = cond (nat_eq place (node_at nodes head).last) block (node_at nodes head).last })
+      (by_bound (node_at n2 head) _ _) b
       ∙ part_kept part n1 place (record (node_at n1 place) { next = block }) (by_next (node_at n1 place) block) b
 
   positions : (b : ℕ) → b ≢ block → (node_at other b).position ≡ (node_at nodes b).position
@@ -184,9 +188,11 @@ module _ (nodes : List Node) (first freed head block position k m : ℕ) (l : Is
 
   chain : chain_at other head ≡ placed nodes (walk nodes (suc k) head) ++ (position, block) ∷ placed nodes (walk nodes m behind)
   chain = ap (placed other) blocks ∙ placed-append other (walk nodes (suc k) head) (block ∷ walk nodes m behind)
-      ∙ ap (λ es. es ++ placed other (block ∷ walk nodes m behind)) (placed_same nodes other (walk nodes (suc k) head) (λ b h. positions b (λ p. not_before (subst (λ c. Has c (walk nodes (suc k) head)) p h))))
+      ∙ ap (λ es. es ++ placed other (block ∷ walk nodes m behind))
+      (placed_same nodes other (walk nodes (suc k) head) (λ b h. positions b (λ p. not_before (subst (λ c. Has c (walk nodes (suc k) head)) p h))))
       ∙ ap (λ p. placed nodes (walk nodes (suc k) head) ++ (p, block) ∷ placed other (walk nodes m behind)) (kept (λ n. n.position) (λ n x. refl) (λ n x y. refl) block ∙ ap (λ n. n.position) new_in_1)
-      ∙ ap (λ es. placed nodes (walk nodes (suc k) head) ++ (position, block) ∷ es) (placed_same nodes other (walk nodes m behind) (λ b h. positions b (λ p. not_behind (subst (λ c. Has c (walk nodes m behind)) p h))))
+      ∙ ap (λ es. placed nodes (walk nodes (suc k) head) ++ (position, block) ∷ es)
+      (placed_same nodes other (walk nodes m behind) (λ b h. positions b (λ p. not_behind (subst (λ c. Has c (walk nodes m behind)) p h))))
 
   old_chain : chain_at nodes head ≡ placed nodes (walk nodes (suc k) head) ++ placed nodes (walk nodes m behind)
   old_chain = ap (placed nodes) old_blocks ∙ placed-append nodes (walk nodes (suc k) head) (walk nodes m behind)
@@ -198,7 +204,8 @@ module _ (nodes : List Node) (first freed head block position k m : ℕ) (l : Is
   all_below =
       let e = ap (placed nodes) ends ∙ placed-append nodes (walk nodes k head) (place ∷ []) in
       subst (AllBelow position) (sym e)
-      (AllBelow-upto position (placed nodes (walk nodes k head)) ((node_at nodes place).position, place) (subst Rises e (Rises-left (placed nodes (walk nodes (suc k) head)) (placed nodes (walk nodes m behind)) rises)) lower)
+      (AllBelow-upto position (placed nodes (walk nodes k head)) ((node_at nodes place).position, place)
+      (subst Rises e (Rises-left (placed nodes (walk nodes (suc k) head)) (placed nodes (walk nodes m behind)) rises)) lower)
 
   all_above : AllAbove position (placed nodes (walk nodes m behind))
   all_above = at m higher (Rises-right (placed nodes (walk nodes (suc k) head)) (placed nodes (walk nodes m behind)) rises)
@@ -230,7 +237,9 @@ module _ (nodes : List Node) (first freed head block position k m : ℕ) (l : Is
       at zero z = ap (λ t. cond t block (node_at nodes head).last) (eq-eqb place (node_at nodes head).last (sym (at_end z)))
           ∙ (same_from_push (walk nodes (suc k) head) bs block b (ap (λ n. walk nodes (suc k) head ++ block ∷ walk nodes n behind) (sym z) ∙ e)).1
       at (suc j) s = ap (λ t. cond t block (node_at nodes head).last) (ne_eqb place (node_at nodes head).last
-          (λ p. place_not_behind (subst (λ c. Has c (walk nodes m behind)) (sym (p ∙ last_stays j s)) (subst (λ bs. Has (step nodes j behind) bs) (sym (further j s)) (Has-right (step nodes j behind) (walk nodes j behind) (step nodes j behind ∷ []) (inl refl))))))
+          (λ p. place_not_behind
+          (subst (λ c. Has c (walk nodes m behind)) (sym (p ∙ last_stays j s))
+          (subst (λ bs. Has (step nodes j behind) bs) (sym (further j s)) (Has-right (step nodes j behind) (walk nodes j behind) (step nodes j behind ∷ []) (inl refl))))))
           ∙ last_stays j s
           ∙ (same_from_push (walk nodes (suc k) head ++ block ∷ walk nodes j behind) bs (step nodes j behind) b
           (append_assoc (walk nodes (suc k) head) (block ∷ walk nodes j behind) (step nodes j behind ∷ []) ∙ ap (λ bs. walk nodes (suc k) head ++ block ∷ bs) (sym (further j s)) ∙ e)).1
@@ -244,10 +253,14 @@ module _ (nodes : List Node) (first freed head block position k m : ℕ) (l : Is
     left = λ n. absurd (n refl);
     from = λ b h. subst (λ bs. (b ≡ block) ⊎ Has b bs) (sym old_blocks) (Has-inside b block (walk nodes (suc k) head) (walk nodes m behind) (subst (λ bs. Has b bs) blocks h));
     positions = positions;
-    entries = chain ∙ sym (ap (λ es. inserted es position block) old_chain ∙ inserted_between (placed nodes (walk nodes (suc k) head)) (placed nodes (walk nodes m behind)) position block all_below all_above);
+    entries =
+        chain ∙ sym
+        (ap (λ es. inserted es position block) old_chain ∙ inserted_between (placed nodes (walk nodes (suc k) head)) (placed nodes (walk nodes m behind)) position block all_below all_above);
     rising = subst Rises (sym chain) (Rises-between (placed nodes (walk nodes (suc k) head)) (placed nodes (walk nodes m behind)) position block rises all_below all_above);
     last_new = λ b bs e. last_is ∙ ending b bs (sym blocks ∙ e);
-    last_others = λ q n. ap (λ n. n.last) (node_at-other n2 head _ q n) ∙ part_kept (λ n. n.last) n1 place (record (node_at n1 place) { next = block }) refl q ∙ part_kept (λ n. n.last) nodes block (record (node_at nodes block) { position = position; next = (node_at nodes place).next }) refl q;
+    last_others =
+        λ q n. ap (λ n. n.last) (node_at-other n2 head _ q n) ∙ part_kept (λ n. n.last) n1 place (record (node_at n1 place) { next = block }) refl q
+        ∙ part_kept (λ n. n.last) nodes block (record (node_at nodes block) { position = position; next = (node_at nodes place).next }) refl q;
   }
     where
       count_stays : (q : ℕ) → q ≢ head → (node_at other q).count ≡ (node_at nodes q).count

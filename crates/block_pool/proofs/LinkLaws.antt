@@ -14,7 +14,8 @@ use Rattle.block_pool.proofs.Relinking.{Relinks, Relinks-begun}
 use Rattle.block_pool.proofs.Inserting.{Relinks-before}
 use Rattle.block_pool.proofs.Cutting.{IsLinked-cut, cut_chain, cut_elsewhere, cut_entries, length-cut}
 use Rattle.block_pool.proofs.Maps.{found, nonempty, entries_found, same_numbers, put_same, put_other, taken_other, all_chains-cut, all_chains-gone}
-use Rattle.block_pool.proofs.Held.{IsLoose-free, IsFree-loose, IsHeld-fresh, IsLoose-fresh, chains-fresh, IsLinked-next, IsLoose-next, IsWithin-held, count_of, few_freed, room_for, first_absent, Relinks-place, IsHeld-relinked, state-relinked, state-begun}
+use Rattle.block_pool.proofs.Held.{IsLoose-free, IsFree-loose, IsHeld-fresh, IsLoose-fresh, chains-fresh, IsLinked-next, IsLoose-next, IsWithin-held, count_of, few_freed, room_for, first_absent}
+use Rattle.block_pool.proofs.Held.{Relinks-place, IsHeld-relinked, state-relinked, state-begun}
 
 -- ---- chains that stay as they are
 is_some_given : {X : Type 0} (o : Option X) → IsSome o → (x : X) × (o ≡ Some x)
@@ -47,7 +48,8 @@ headed : (head : ℕ) (es : Entries ℕ) → es ≢ [] → Some head ≡ head_of
 headed head [] n = absurd (n refl)
 headed head (e ∷ es) n = refl
 
-all_below : {nodes : List Node} (head position place kept : ℕ) → IsWithin nodes head → IsPlace nodes head position place kept → kept ≡ (node_at nodes head).count → below (chain_at nodes head) position ≡ chain_at nodes head
+all_below : {nodes : List Node} (head position place kept : ℕ) → IsWithin nodes head → IsPlace nodes head position place kept → kept ≡ (node_at nodes head).count
+    → below (chain_at nodes head) position ≡ chain_at nodes head
 all_below {nodes = nodes} head position place kept w p all =
     let e : chain_at nodes head ≡ placed nodes (walk nodes (kept - 1) head) ++ ((node_at nodes place).position, place) ∷ [] =
     ap (λ n. placed nodes (walk nodes n head)) (let s : (node_at nodes head).count ≡ suc (kept - 1) = omega (arith, p.some) in s)
@@ -55,7 +57,8 @@ all_below {nodes = nodes} head position place kept w p all =
     ∙ ap (λ b. placed nodes (walk nodes (kept - 1) head) ++ ((node_at nodes b).position, b) ∷ []) (sym p.at) in
     let xs = chain_at nodes head in
     ap (λ es. below es position) (sym (append-nil xs))
-    ∙ below_between xs [] position (subst (AllBelow position) (sym e) (AllBelow-upto position (placed nodes (walk nodes (kept - 1) head)) ((node_at nodes place).position, place) (subst Rises e w.rising) p.lower)) tt
+    ∙ below_between xs [] position
+    (subst (AllBelow position) (sym e) (AllBelow-upto position (placed nodes (walk nodes (kept - 1) head)) ((node_at nodes place).position, place) (subst Rises e w.rising) p.lower)) tt
 
 module _ {nodes : List Node} {first freed blocks capacity : ℕ} (h : IsHeld nodes first freed blocks capacity) (v : LinkState) (is : link_state nodes first freed blocks ≡ v) where
   pub loose : (block : ℕ) → IsFree v block → IsLoose nodes first freed block
@@ -77,7 +80,8 @@ module _ {nodes : List Node} {first freed blocks capacity : ℕ} (h : IsHeld nod
       → Relinks nodes (put_behind nodes head place block position) first freed head head block position
   relinks_place head block position place kept f p none = Relinks-place nodes first freed head block position place kept h.linked (loose block f) p (absent_is head position none)
 
-  pub relinks_before : (head block position : ℕ) → IsSome (fin.get v.chains head) → IsFree v block → position < (node_at nodes head).position → Relinks nodes (put_before nodes head block position) first freed head block block position
+  pub relinks_before : (head block position : ℕ) → IsSome (fin.get v.chains head) → IsFree v block → position < (node_at nodes head).position
+      → Relinks nodes (put_before nodes head block position) first freed head block block position
   relinks_before head block position some f lt =
       let w = whole head some in
       Relinks-before nodes first freed head block position ((node_at nodes head).count - 1) h.linked (loose block f) (omega (arith, w.some)) lt
@@ -86,17 +90,21 @@ module _ {nodes : List Node} {first freed blocks capacity : ℕ} (h : IsHeld nod
   relinks_begun block position f = Relinks-begun nodes first freed block position (loose block f)
 
   -- the links are held as before
-  pub held_after : (other result : List Node) (old new block position more : ℕ) → IsFree v block → Relinks nodes other first freed old new block position → result ≡ other → more ≡ capacity → IsHeld result first freed blocks more
+  pub held_after : (other result : List Node) (old new block position more : ℕ) → IsFree v block → Relinks nodes other first freed old new block position → result ≡ other → more ≡ capacity
+      → IsHeld result first freed blocks more
   held_after other result old new block position more f r e c =
-      subst (λ n. IsHeld n first freed blocks more) (sym e) (subst (λ n. IsHeld other first freed blocks n) (sym c) (IsHeld-relinked nodes other first freed blocks capacity old new block position h (loose block f) r))
+      subst (λ n. IsHeld n first freed blocks more) (sym e)
+      (subst (λ n. IsHeld other first freed blocks n) (sym c) (IsHeld-relinked nodes other first freed blocks capacity old new block position h (loose block f) r))
 
   -- the chain of this head is another one
-  pub shows_after : (other result : List Node) (head : Option ℕ) (old new block position : ℕ) → head ≡ Some old → IsFree v block → Relinks nodes other first freed old new block position → result ≡ other
+  pub shows_after : (other result : List Node) (head : Option ℕ) (old new block position : ℕ) → head ≡ Some old → IsFree v block
+      → Relinks nodes other first freed old new block position → result ≡ other
       → link_state result first freed blocks ≡ record v { chains = replaced v.chains head (Some new) (inserted (entries_of v.chains head) position block) }
   shows_after other result head old new block position o f r e =
       ap (λ n. link_state n first freed blocks) e
       ∙ subst (λ w. link_state other first freed blocks ≡ record w { chains = replaced w.chains head (Some new) (inserted (entries_of w.chains head) position block) }) is
-      (subst (λ q. link_state other first freed blocks ≡ record (link_state nodes first freed blocks) { chains = replaced (all_chains nodes) q (Some new) (inserted (entries_of (all_chains nodes) q) position block) }) (sym o)
+      (subst (λ q. link_state other first freed blocks
+      ≡ record (link_state nodes first freed blocks) { chains = replaced (all_chains nodes) q (Some new) (inserted (entries_of (all_chains nodes) q) position block) }) (sym o)
       (state-relinked nodes other first freed blocks old new block position h.linked (loose block f) r))
 
   pub shows_begun : (result : List Node) (head : Option ℕ) (block position : ℕ) → head ≡ None → IsFree v block → result ≡ begun nodes block position
@@ -104,7 +112,8 @@ module _ {nodes : List Node} {first freed blocks capacity : ℕ} (h : IsHeld nod
   shows_begun result head block position o f e =
       ap (λ n. link_state n first freed blocks) e
       ∙ subst (λ w. link_state (begun nodes block position) first freed blocks ≡ record w { chains = replaced w.chains head (Some block) (inserted (entries_of w.chains head) position block) }) is
-      (subst (λ q. link_state (begun nodes block position) first freed blocks ≡ record (link_state nodes first freed blocks) { chains = replaced (all_chains nodes) q (Some block) (inserted (entries_of (all_chains nodes) q) position block) }) (sym o)
+      (subst (λ q. link_state (begun nodes block position) first freed blocks
+      ≡ record (link_state nodes first freed blocks) { chains = replaced (all_chains nodes) q (Some block) (inserted (entries_of (all_chains nodes) q) position block) }) (sym o)
       (state-begun nodes first freed blocks block position h.linked (loose block f)))
 
   pub room_is : (head block : ℕ) → IsFree v block → (node_at nodes head).count + 1 ≤ length nodes
@@ -139,7 +148,8 @@ module _ {nodes : List Node} {first freed blocks capacity : ℕ} (h : IsHeld nod
       subst (λ n. IsHeld n first freed blocks more) (sym e) (record { linked = held.linked; few = held.few; room = omega (arith, held.room) })
 
   pub fresh_free : (result : List Node) → result ≡ nodes ++ no_node ∷ [] → IsFree (link_state result first freed blocks) (length nodes)
-  fresh_free result e = subst (λ n. IsFree (link_state n first freed blocks) (length nodes)) (sym e) (IsFree-loose (nodes ++ no_node ∷ []) first freed blocks (length nodes) (IsLoose-fresh nodes first freed h.linked))
+  fresh_free result e =
+      subst (λ n. IsFree (link_state n first freed blocks) (length nodes)) (sym e) (IsFree-loose (nodes ++ no_node ∷ []) first freed blocks (length nodes) (IsLoose-fresh nodes first freed h.linked))
 
   pub fresh_shows : (result : List Node) → result ≡ nodes ++ no_node ∷ [] → all_chains result ≡ v.chains
   fresh_shows result e = ap all_chains e ∙ chains-fresh nodes ∙ ap (λ w. w.chains) is
@@ -198,13 +208,15 @@ module _ {nodes : List Node} {first freed blocks capacity : ℕ} (h : IsHeld nod
     chain_after = cut_chain nodes first freed head place kept more h.linked there cut.upto
 
     -- free blocks and those that are left
-    pub free_cut : (result : List Node) → result ≡ after → free_of (link_state result (step nodes kept head) (freed + cut_off) blocks) + length left ≡ free_of v + length (entries_of v.chains (Some head))
+    pub free_cut : (result : List Node) → result ≡ after
+        → free_of (link_state result (step nodes kept head) (freed + cut_off) blocks) + length left ≡ free_of v + length (entries_of v.chains (Some head))
     free_cut result e =
         let len : length result ≡ length nodes = ap length e ∙ length-cut nodes first freed head place kept more h.linked there cut.upto in
         let was : free_of v ≡ freed + (blocks - length nodes) = subst (λ w. free_of w ≡ freed + (blocks - length nodes)) is (ap (λ n. n + (blocks - length nodes)) (length-walk nodes freed first)) in
         let walked : length (walk result (freed + cut_off) (step nodes kept head)) ≡ freed + cut_off = length-walk result (freed + cut_off) (step nodes kept head) in
         let kept_is : length left ≡ kept = ap length kept_entries ∙ length-map (walk nodes kept head) (λ b. ((node_at nodes b).position, b)) ∙ length-walk nodes kept head in
-        let all_is : length (entries_of v.chains (Some head)) ≡ (node_at nodes head).count = ap length (sym (entries_are head)) ∙ length-map (blocks_at nodes head) (λ b. ((node_at nodes b).position, b)) ∙ length-walk nodes (node_at nodes head).count head in
+        let all_is : length (entries_of v.chains (Some head)) ≡ (node_at nodes head).count =
+        ap length (sym (entries_are head)) ∙ length-map (blocks_at nodes head) (λ b. ((node_at nodes b).position, b)) ∙ length-walk nodes (node_at nodes head).count head in
         let lt = cut.less in
         omega arith
 
@@ -223,7 +235,8 @@ module _ {nodes : List Node} {first freed blocks capacity : ℕ} (h : IsHeld nod
         let here : left ≡ ((node_at nodes head).position, head) ∷ es = kept_entries ∙ ap (λ n. placed nodes (walk nodes n head)) s in (
           ap all_chains e
               ∙ subst (λ w. all_chains after ≡ replaced w.chains (Some head) (Some head) (((node_at nodes head).position, head) ∷ es)) is
-              (all_chains-cut nodes after head ((node_at nodes head).position, head) es (cut_elsewhere nodes first freed head place kept more h.linked there cut.upto) (chain_after ∙ ap (λ n. placed nodes (walk nodes n head)) s))
+              (all_chains-cut nodes after head ((node_at nodes head).position, head) es (cut_elsewhere nodes first freed head place kept more h.linked there cut.upto)
+              (chain_after ∙ ap (λ n. placed nodes (walk nodes n head)) s))
               ∙ ap (λ fs. replaced v.chains (Some head) (Some head) fs) (sym here),
           ap (head_of head) (sym here),
         )

@@ -1,5 +1,6 @@
 -- The chains that nodes make, found by their heads, and as one map after a change.
-use Rattle.std.proofs.Common.{◌≡◌, ◌≢◌, ℕ, zero, suc, ◌<◌, ◌≤◌, Bool, true, false, cond, List, [], ◌∷◌, ◌⊎◌, inl, inr, Option, None, Some, refl, sym, ap, subst, ◌∙◌, length, nat_eq, nat_cmp, nat_lt, arith}
+use Rattle.std.proofs.Common.{◌≡◌, ◌≢◌, ℕ, zero, suc, ◌<◌, ◌≤◌, Bool, true, false, cond, List, [], ◌∷◌, ◌⊎◌, inl, inr, Option, None, Some, refl, sym, ap, subst, ◌∙◌, length, nat_eq, nat_cmp}
+use Rattle.std.proofs.Common.{nat_lt, arith}
 use Rattle.std.proofs.lemmas.Bool.{cases_eq, cases_lt, eq-eqb, ne_eqb}
 use Rattle.std.proofs.lemmas.Bool.Decides.{nat_tests}
 use Rattle.std.proofs.lemmas.List.{get_or_past}
@@ -85,14 +86,16 @@ inserted_some (e ∷ es) p b = at (nat_lt p e.0)
 
 -- ---- after a change
 -- the chain with one head has another one, and an entry more
-pub all_chains-relinked : (nodes other : List Node) (first freed old new block position : ℕ) → IsLinked nodes first freed → IsLoose nodes first freed block → Relinks nodes other first freed old new block position
+pub all_chains-relinked : (nodes other : List Node) (first freed old new block position : ℕ) → IsLinked nodes first freed → IsLoose nodes first freed block
+    → Relinks nodes other first freed old new block position
     → all_chains other ≡ replaced (all_chains nodes) (Some old) (Some new) (inserted (entries_of (all_chains nodes) (Some old)) position block)
 all_chains-relinked nodes other first freed old new block position l loose r =
     let was = all_chains nodes in
     let es = inserted (entries_of was (Some old)) position block in
     let here : chain_at other new ≡ es = r.entries ∙ ap (λ es. inserted es position block) (sym (entries_found nodes old)) in
     same_numbers (all_chains other) (fin.insert (fin.remove was old) new es) (λ q. found other q ∙ from_either
-    (λ e. ap (λ q. nonempty (chain_at other q)) e ∙ ap nonempty here ∙ inserted_some (entries_of was (Some old)) position block ∙ sym (ap (fin.get (fin.insert (fin.remove was old) new es)) e ∙ put_same (fin.remove was old) new es))
+    (λ e. ap (λ q. nonempty (chain_at other q)) e ∙ ap nonempty here ∙ inserted_some (entries_of was (Some old)) position block
+    ∙ sym (ap (fin.get (fin.insert (fin.remove was old) new es)) e ∙ put_same (fin.remove was old) new es))
     (λ n. from_either
     (λ f. ap (λ q. nonempty (chain_at other q)) f ∙ ap (λ bs. nonempty (placed other bs)) (r.left (λ p. n (f ∙ p)))
     ∙ sym (put_other (fin.remove was old) new es q n ∙ ap (fin.get (fin.remove was old)) f ∙ taken_same was old))
@@ -101,7 +104,8 @@ all_chains-relinked nodes other first freed old new block position l loose r =
     (cases_eq q new))
 
 -- a new chain
-pub all_chains-begun : (nodes other : List Node) (first freed block position : ℕ) → IsLinked nodes first freed → IsLoose nodes first freed block → Relinks nodes other first freed block block block position
+pub all_chains-begun : (nodes other : List Node) (first freed block position : ℕ) → IsLinked nodes first freed → IsLoose nodes first freed block
+    → Relinks nodes other first freed block block block position
     → all_chains other ≡ replaced (all_chains nodes) None (Some block) ((position, block) ∷ [])
 all_chains-begun nodes other first freed block position l loose r =
     let was = all_chains nodes in

@@ -76,7 +76,8 @@ parts_overwritten size (suc n) (suc b) first xs ys lt e fits =
 -- zeros that are appended
 pub grown : (xs : List ℕ) (len less count : ℕ) → len ≡ length xs → less ≡ length xs → take (len + count) xs ++ replicate ((len + count) - less) 0 ≡ xs ++ zeros count
 unfolding zeros
-grown xs len less count e f = ap (λ zs. zs ++ replicate ((len + count) - less) 0) (take_all (len + count) xs (omega arith)) ∙ ap (λ n. xs ++ replicate n 0) (let s : (len + count) - less ≡ count = omega arith in s)
+grown xs len less count e f =
+    ap (λ zs. zs ++ replicate ((len + count) - less) 0) (take_all (len + count) xs (omega arith)) ∙ ap (λ n. xs ++ replicate n 0) (let s : (len + count) - less ≡ count = omega arith in s)
 
 pub length-zeros : (n : ℕ) → length (zeros n) ≡ n
 unfolding zeros
@@ -84,7 +85,8 @@ length-zeros n = length-replicate n 0
 
 -- ---- the region's blocks
 -- one that is read
-pub read_part : (size n b first count : ℕ) (xs : List ℕ) → b < n → length xs ≡ n * size → first + count ≤ size → take count (drop (b * size + first) xs) ≡ take count (drop first (get_or (parts size n xs) b []))
+pub read_part : (size n b first count : ℕ) (xs : List ℕ) → b < n → length xs ≡ n * size → first + count ≤ size
+    → take count (drop (b * size + first) xs) ≡ take count (drop first (get_or (parts size n xs) b []))
 read_part size n b first count xs lt e fits =
     ap (take count) (sym (drop-drop first (b * size) xs))
     ∙ cut_take count first size (drop (b * size) xs) fits

@@ -1,5 +1,6 @@
 -- From links and bytes to what the pool shows.
-use Rattle.std.proofs.Common.{◌≡◌, ◌≢◌, ℕ, zero, suc, ◌+◌, ◌<◌, ◌≤◌, Bool, true, false, cond, List, [], ◌∷◌, ◌++◌, ◌⊎◌, inl, inr, Option, None, Some, refl, sym, ap, subst, ◌∙◌, length, map, get_or, set, take, drop, nat_eq, nat_lt, nat_cmp, arith, length-append}
+use Rattle.std.proofs.Common.{◌≡◌, ◌≢◌, ℕ, zero, suc, ◌+◌, ◌<◌, ◌≤◌, Bool, true, false, cond, List, [], ◌∷◌, ◌++◌, ◌⊎◌, inl, inr, Option, None, Some, refl, sym, ap, subst, ◌∙◌, length, map}
+use Rattle.std.proofs.Common.{get_or, set, take, drop, nat_eq, nat_lt, nat_cmp, arith, length-append}
 use Rattle.std.proofs.lemmas.Bool.{cases_eq, eq-eqb, ne_eqb}
 use Rattle.std.proofs.lemmas.List.{length-map, get_or-set_same, get_or-set_other, get_or_append_left, get_or_at, length-take-le, length-drop, length-set}
 use Rattle.std.specs.Cmp.{nat_cmp_total}
@@ -32,7 +33,8 @@ filled-inserted blocks [] p b = refl
 filled-inserted blocks (e ∷ es) p b = step (nat_lt p e.0) (filled-inserted blocks es p b)
   where
     step : (t : Bool) → filled blocks (inserted es p b) ≡ inserted (filled blocks es) p (get_or blocks b [])
-        → filled blocks (cond t ((p, b) ∷ e ∷ es) (e ∷ inserted es p b)) ≡ cond t ((p, get_or blocks b []) ∷ filled blocks (e ∷ es)) ((e.0, get_or blocks e.1 []) ∷ inserted (filled blocks es) p (get_or blocks b []))
+        → filled blocks (cond t ((p, b) ∷ e ∷ es) (e ∷ inserted es p b))
+        ≡ cond t ((p, get_or blocks b []) ∷ filled blocks (e ∷ es)) ((e.0, get_or blocks e.1 []) ∷ inserted (filled blocks es) p (get_or blocks b []))
     step true more = refl
     step false more = ap (λ fs. (e.0, get_or blocks e.1 []) ∷ fs) more
 
@@ -62,7 +64,8 @@ has_at (e ∷ es) p b f = step (nat_eq p e.0) f (has_at es p b)
     step false f more = inr (more f)
 
 -- the one block is other bytes
-pub filled-set : (blocks : List (List ℕ)) (es : Entries ℕ) (p b : ℕ) (v : List ℕ) → b < length blocks → Once (blocks_of es) → at es p ≡ Some b → filled (set blocks b v) es ≡ set_value (nat_eq p) (filled blocks es) v
+pub filled-set : (blocks : List (List ℕ)) (es : Entries ℕ) (p b : ℕ) (v : List ℕ) → b < length blocks → Once (blocks_of es) → at es p ≡ Some b
+    → filled (set blocks b v) es ≡ set_value (nat_eq p) (filled blocks es) v
 filled-set blocks [] p b v lt once f = refl
 filled-set blocks (e ∷ es) p b v lt once f = step (nat_eq p e.0) f (filled-set blocks es p b v lt once.1)
   where
@@ -123,16 +126,19 @@ pub with_bytes-without : (blocks : List (List ℕ)) (m : ChainMap ℕ) (head : O
 with_bytes-without blocks m None = refl
 with_bytes-without blocks m (Some k) = with_bytes-remove blocks m k
 
-pub with_bytes-replaced : (blocks : List (List ℕ)) (m : ChainMap ℕ) (old new : Option ℕ) (es : Entries ℕ) → with_bytes blocks (replaced m old new es) ≡ replaced (with_bytes blocks m) old new (filled blocks es)
+pub with_bytes-replaced : (blocks : List (List ℕ)) (m : ChainMap ℕ) (old new : Option ℕ) (es : Entries ℕ)
+    → with_bytes blocks (replaced m old new es) ≡ replaced (with_bytes blocks m) old new (filled blocks es)
 with_bytes-replaced blocks m old None es = with_bytes-without blocks m old
 with_bytes-replaced blocks m old (Some k) es = with_bytes-insert blocks (without m old) k es ∙ ap (λ n. fin.insert n k (filled blocks es)) (with_bytes-without blocks m old)
 
-given_same : (blocks other : List (List ℕ)) (o : Option (Entries ℕ)) → ((es : Entries ℕ) → o ≡ Some es → filled other es ≡ filled blocks es) → option_map (filled other) o ≡ option_map (filled blocks) o
+given_same : (blocks other : List (List ℕ)) (o : Option (Entries ℕ)) → ((es : Entries ℕ) → o ≡ Some es → filled other es ≡ filled blocks es)
+    → option_map (filled other) o ≡ option_map (filled blocks) o
 given_same blocks other None same = refl
 given_same blocks other (Some es) same = ap Some (same es refl)
 
 -- blocks that no chain has may be others
-pub with_bytes_same : (blocks other : List (List ℕ)) (m : ChainMap ℕ) → ((q b : ℕ) (es : Entries ℕ) → fin.get m q ≡ Some es → Has b (blocks_of es) → get_or other b [] ≡ get_or blocks b []) → with_bytes other m ≡ with_bytes blocks m
+pub with_bytes_same : (blocks other : List (List ℕ)) (m : ChainMap ℕ) → ((q b : ℕ) (es : Entries ℕ) → fin.get m q ≡ Some es → Has b (blocks_of es) → get_or other b [] ≡ get_or blocks b [])
+    → with_bytes other m ≡ with_bytes blocks m
 with_bytes_same blocks other m same = same_numbers _ _ (λ q. get-with_bytes other m q
     ∙ given_same blocks other (fin.get m q) (λ es e. filled_same blocks other es (λ b h. same q b es e h))
     ∙ sym (get-with_bytes blocks m q))

@@ -1,5 +1,6 @@
 -- What each call of the pool leaves, for links and bytes that show a pool.
-use Rattle.std.proofs.Common.{◌≡◌, ◌≢◌, ℕ, zero, suc, ◌+◌, ◌-◌, ◌<◌, ◌≤◌, Bool, true, false, cond, List, [], ◌∷◌, ◌⊎◌, inl, inr, Option, None, Some, IsSome, is_some, refl, sym, ap, subst, ◌∙◌, length, get_or, set, nat_eq, nat_lt, nat_cmp, arith}
+use Rattle.std.proofs.Common.{◌≡◌, ◌≢◌, ℕ, zero, suc, ◌+◌, ◌-◌, ◌<◌, ◌≤◌, Bool, true, false, cond, List, [], ◌∷◌, ◌⊎◌, inl, inr, Option, None, Some, IsSome, is_some, refl, sym, ap, subst, ◌∙◌}
+use Rattle.std.proofs.Common.{length, get_or, set, nat_eq, nat_lt, nat_cmp, arith}
 use Rattle.std.proofs.lemmas.Bool.{cases_eq, false≢true, le-ltb}
 use Rattle.std.proofs.lemmas.List.{get_or-set_other, length-set}
 use Rattle.std.specs.FinMap as fin
@@ -14,7 +15,8 @@ use Rattle.block_pool.specs.Pool.{Pool, filled, with_bytes, pool_of, total, AllO
 use Rattle.block_pool.proofs.Lists.{from_either}
 use Rattle.block_pool.proofs.Maps.{same_numbers, put_same, put_other, taken_other}
 use Rattle.block_pool.proofs.Totals.{IsBelow, total-empty, total-replaced, total-without, Keeps-replaced, Keeps-without}
-use Rattle.block_pool.proofs.PoolLaws.{at_filled, filled-inserted, filled-below, filled_same, filled-set, has_at, length-filled, get-with_bytes, entries-with_bytes, with_bytes-replaced, with_bytes_same, sized_at, sized-set, length-overwritten, ready_sized, ready_length, ready_other, ready_here}
+use Rattle.block_pool.proofs.PoolLaws.{at_filled, filled-inserted, filled-below, filled_same, filled-set, has_at, length-filled, get-with_bytes, entries-with_bytes, with_bytes-replaced}
+use Rattle.block_pool.proofs.PoolLaws.{with_bytes_same, sized_at, sized-set, length-overwritten, ready_sized, ready_length, ready_other, ready_here}
 
 length-inserted : (es : Entries ℕ) (p b : ℕ) → length (inserted es p b) ≡ length es + 1
 length-inserted [] p b = refl
@@ -72,7 +74,8 @@ module _ (l : LinkState) (r : RegionBytes) (fill : IsFilled l r) (v : Pool) (is 
       given (Some b) = refl
 
   -- entries of a chain are found
-  entries_found : (valid : IsValid l) (head : Option ℕ) → IsChain l.chains head → (b : ℕ) → Has b (blocks_of (entries_of l.chains head)) → (q : ℕ) × (es : Entries ℕ) × (fin.get l.chains q ≡ Some es) × Has b (blocks_of es)
+  entries_found : (valid : IsValid l) (head : Option ℕ) → IsChain l.chains head → (b : ℕ) → Has b (blocks_of (entries_of l.chains head))
+      → (q : ℕ) × (es : Entries ℕ) × (fin.get l.chains q ≡ Some es) × Has b (blocks_of es)
   entries_found valid None c b h = absurd h
   entries_found valid (Some q) c b h =
       let x = is_given (fin.get l.chains q) c in
@@ -173,7 +176,8 @@ module _ (l : LinkState) (r : RegionBytes) (fill : IsFilled l r) (v : Pool) (is 
           let blocks_same : linked.blocks ≡ l.blocks = ap (λ w. w.blocks) put.links ∙ put.blocks in
           let more = total-replaced l.chains head new l.blocks (inserted (entries_of l.chains head) position block) (below_blocks valid head own_is) new_below new_head in
           let len = length-inserted (entries_of l.chains head) position block in
-          let sum : total linked.chains linked.blocks ≡ total (replaced l.chains head (Some new) (inserted (entries_of l.chains head) position block)) l.blocks = ap (λ m. total m linked.blocks) linked_chains ∙ ap (total (replaced l.chains head (Some new) (inserted (entries_of l.chains head) position block))) blocks_same in
+          let sum : total linked.chains linked.blocks ≡ total (replaced l.chains head (Some new) (inserted (entries_of l.chains head) position block)) l.blocks =
+          ap (λ m. total m linked.blocks) linked_chains ∙ ap (total (replaced l.chains head (Some new) (inserted (entries_of l.chains head) position block))) blocks_same in
           let f = put.free in let g = linked_free in let a = fill.all in
           omega arith;
     }
@@ -233,7 +237,8 @@ module _ (l : LinkState) (r : RegionBytes) (fill : IsFilled l r) (v : Pool) (is 
       limit = fill.limit ∙ sym less.blocks;
       sized = fill.sized;
       all =
-          let sum : total cut.chains cut.blocks ≡ total (replaced l.chains (Some head) left (below (entries_of l.chains (Some head)) position)) l.blocks = ap (λ m. total m cut.blocks) less.chains ∙ ap (total (replaced l.chains (Some head) left (below (entries_of l.chains (Some head)) position))) less.blocks in
+          let sum : total cut.chains cut.blocks ≡ total (replaced l.chains (Some head) left (below (entries_of l.chains (Some head)) position)) l.blocks =
+          ap (λ m. total m cut.blocks) less.chains ∙ ap (total (replaced l.chains (Some head) left (below (entries_of l.chains (Some head)) position))) less.blocks in
           let more = total_less left less.heads in
           let b = less.blocks in let f = less.free in let a = fill.all in
           omega arith;
@@ -247,9 +252,13 @@ module _ (l : LinkState) (r : RegionBytes) (fill : IsFilled l r) (v : Pool) (is 
         none_left (x ∷ es) e = absurd (let f : None ≡ Some head = e in cc)
 
         total_less : (now : Option ℕ) → now ≡ head_of head (below (entries_of l.chains (Some head)) position)
-            → total (replaced l.chains (Some head) now (below (entries_of l.chains (Some head)) position)) l.blocks + length (entries_of l.chains (Some head)) ≡ total l.chains l.blocks + length (below (entries_of l.chains (Some head)) position)
-        total_less None e = let gone = total-without l.chains (Some head) l.blocks (below_blocks valid (Some head) own_is) in let z = none_left (below (entries_of l.chains (Some head)) position) e in omega arith
-        total_less (Some n) e = total-replaced l.chains (Some head) n l.blocks (below (entries_of l.chains (Some head)) position) (below_blocks valid (Some head) own_is) (subst (λ h. IsBelow h l.blocks) (sym (own_head n e)) (below_blocks valid (Some head) own_is)) (inr (sym (own_head n e)))
+            → total (replaced l.chains (Some head) now (below (entries_of l.chains (Some head)) position)) l.blocks + length (entries_of l.chains (Some head))
+            ≡ total l.chains l.blocks + length (below (entries_of l.chains (Some head)) position)
+        total_less None e =
+            let gone = total-without l.chains (Some head) l.blocks (below_blocks valid (Some head) own_is) in let z = none_left (below (entries_of l.chains (Some head)) position) e in omega arith
+        total_less (Some n) e =
+            total-replaced l.chains (Some head) n l.blocks (below (entries_of l.chains (Some head)) position) (below_blocks valid (Some head) own_is)
+            (subst (λ h. IsBelow h l.blocks) (sym (own_head n e)) (below_blocks valid (Some head) own_is)) (inr (sym (own_head n e)))
           where
             same_head : (es : Entries ℕ) → Some n ≡ head_of head es → Some n ≡ Some head
             same_head [] e = absurd (let f : Some n ≡ None = e in cc)
@@ -271,7 +280,8 @@ module _ (l : LinkState) (r : RegionBytes) (fill : IsFilled l r) (v : Pool) (is 
         same_head n [] e = absurd (let f : Some n ≡ None = e in cc)
         same_head n (x ∷ es) e = sym e
 
-        at_left : (now : Option ℕ) → now ≡ head_of head (below (entries_of l.chains (Some head)) position) → Keeps v.chains (replaced v.chains (Some head) now (below (entries_of v.chains (Some head)) position)) (Some head) now
+        at_left : (now : Option ℕ) → now ≡ head_of head (below (entries_of l.chains (Some head)) position)
+            → Keeps v.chains (replaced v.chains (Some head) now (below (entries_of v.chains (Some head)) position)) (Some head) now
         at_left None e = Keeps-without v.chains (Some head)
         at_left (Some n) e = Keeps-replaced v.chains (Some head) n (below (entries_of v.chains (Some head)) position) (inr (same_head n (below (entries_of l.chains (Some head)) position) e))
 
@@ -290,7 +300,8 @@ module _ (l : LinkState) (r : RegionBytes) (fill : IsFilled l r) (v : Pool) (is 
 
     written_entries : filled written.blocks (entries_of l.chains (Some head)) ≡ set_value (nat_eq position) (entries_of v.chains (Some head)) other
     written_entries = ap (λ w. filled w.blocks (entries_of l.chains (Some head))) is_written
-        ∙ filled-set r.blocks (entries_of l.chains (Some head)) position block other within (subst (λ o. Once (blocks_of (unwrap_or o []))) (sym found_own.1) (valid.once head found_own.0 found_own.1)) there
+        ∙ filled-set r.blocks (entries_of l.chains (Some head)) position block other within
+        (subst (λ o. Once (blocks_of (unwrap_or o []))) (sym found_own.1) (valid.once head found_own.0 found_own.1)) there
         ∙ ap (λ es. set_value (nat_eq position) es other) (entries_are (Some head))
 
     elsewhere : (q : ℕ) → q ≢ head → option_map (filled written.blocks) (fin.get l.chains q) ≡ option_map (filled r.blocks) (fin.get l.chains q)
@@ -301,13 +312,17 @@ module _ (l : LinkState) (r : RegionBytes) (fill : IsFilled l r) (v : Pool) (is 
 
         given : (o : Option (Entries ℕ)) → fin.get l.chains q ≡ o → option_map (filled written.blocks) o ≡ option_map (filled r.blocks) o
         given None e = refl
-        given (Some es) e = ap Some (filled_same r.blocks written.blocks es (λ b h. ap (λ w. get_or w.blocks b []) is_written ∙ get_or-set_other r.blocks block b other [] (λ p. n (valid.apart q head block es found_own.0 e found_own.1 (subst (λ c. Has c (blocks_of es)) p h) has_own))))
+        given (Some es) e =
+            ap Some (filled_same r.blocks written.blocks es
+            (λ b h. ap (λ w. get_or w.blocks b []) is_written
+            ∙ get_or-set_other r.blocks block b other [] (λ p. n (valid.apart q head block es found_own.0 e found_own.1 (subst (λ c. Has c (blocks_of es)) p h) has_own))))
 
     written_chains : with_bytes written.blocks l.chains ≡ replaced v.chains (Some head) (Some head) (set_value (nat_eq position) (entries_of v.chains (Some head)) other)
     written_chains = same_numbers _ _ (λ q. get-with_bytes written.blocks l.chains q ∙ from_either
         (λ e. ap (λ q. option_map (filled written.blocks) (fin.get l.chains q)) e
         ∙ ap (option_map (filled written.blocks)) found_own.1 ∙ ap (λ o. Some (filled written.blocks (unwrap_or o []))) (sym found_own.1) ∙ ap Some written_entries
-        ∙ sym (ap (fin.get (replaced v.chains (Some head) (Some head) (set_value (nat_eq position) (entries_of v.chains (Some head)) other))) e ∙ put_same (fin.remove v.chains head) head (set_value (nat_eq position) (entries_of v.chains (Some head)) other)))
+        ∙ sym (ap (fin.get (replaced v.chains (Some head) (Some head) (set_value (nat_eq position) (entries_of v.chains (Some head)) other))) e
+        ∙ put_same (fin.remove v.chains head) head (set_value (nat_eq position) (entries_of v.chains (Some head)) other)))
         (λ n. elsewhere q n ∙ sym (get-with_bytes r.blocks l.chains q) ∙ ap (λ m. fin.get m q) chains_are
         ∙ sym (put_other (fin.remove v.chains head) head (set_value (nat_eq position) (entries_of v.chains (Some head)) other) q n ∙ taken_other v.chains head q n))
         (cases_eq q head))
@@ -315,7 +330,8 @@ module _ (l : LinkState) (r : RegionBytes) (fill : IsFilled l r) (v : Pool) (is 
     pub written_shows : (was : Option ℕ) → was ≡ Some head → pool_of l written ≡ write_block v was position first bytes
     written_shows was e =
         same_pool _ _ _ _ _ _ written_chains (ap (λ p. p.free) is) (ap (λ p. p.blocks) is)
-        ∙ ap (λ b. record v { chains = replaced v.chains (Some head) (Some head) (set_value (nat_eq position) (entries_of v.chains (Some head)) (overwritten b first bytes)) }) (sym (block_is (Some head) position block there))
+        ∙ ap (λ b. record v { chains = replaced v.chains (Some head) (Some head) (set_value (nat_eq position) (entries_of v.chains (Some head)) (overwritten b first bytes)) })
+        (sym (block_is (Some head) position block there))
         ∙ ap (λ h. write_block v h position first bytes) (sym e)
 
     pub written_filled : IsFilled l written
@@ -323,13 +339,15 @@ module _ (l : LinkState) (r : RegionBytes) (fill : IsFilled l r) (v : Pool) (is 
       used = ap (λ w. length w.blocks) is_written ∙ length-set r.blocks block other ∙ fill.used;
       limit = ap (λ w. w.limit) is_written ∙ fill.limit;
       sized = subst (λ w. AllOf 65536 w.blocks) (sym is_written) (sized-set 65536 block r.blocks other fill.sized
-          (length-overwritten (get_or r.blocks block []) first bytes (subst (λ n. first + length bytes ≤ n) (sym (sized_at 65536 block r.blocks fill.sized within)) fits) ∙ sized_at 65536 block r.blocks fill.sized within));
+          (length-overwritten (get_or r.blocks block []) first bytes (subst (λ n. first + length bytes ≤ n) (sym (sized_at 65536 block r.blocks fill.sized within)) fits)
+          ∙ sized_at 65536 block r.blocks fill.sized within));
       all = fill.all;
     }
 
     pub written_keeps : (was : Option ℕ) → was ≡ Some head → Keeps v.chains (with_bytes written.blocks l.chains) was was
     written_keeps was e = subst (λ h. Keeps v.chains (with_bytes written.blocks l.chains) h h) (sym e)
-        (subst (λ m. Keeps v.chains m (Some head) (Some head)) (sym written_chains) (Keeps-replaced v.chains (Some head) head (set_value (nat_eq position) (entries_of v.chains (Some head)) other) (inr refl)))
+        (subst (λ m. Keeps v.chains m (Some head) (Some head)) (sym written_chains)
+        (Keeps-replaced v.chains (Some head) head (set_value (nat_eq position) (entries_of v.chains (Some head)) other) (inr refl)))
 
   -- ---- what holds of every pool
   pub IsPool-filled : IsValid l → IsPool v
@@ -404,5 +422,7 @@ no_head chains (Some q) = ap (head_of q) (none_below (entries_of chains (Some q)
 pub given_back : (v : Pool) (head now : Option ℕ) → now ≡ cut_head v.chains head 0 → cut_chain v head now 0 ≡ give_chain v head
 given_back v head now e =
     ap (λ n. cut_chain v head n 0) (e ∙ no_head v.chains head)
-    ∙ same_pool (without v.chains head) (without v.chains head) ((v.free + length (entries_of v.chains head)) - length (below (entries_of v.chains head) 0)) (v.free + length (entries_of v.chains head)) v.blocks v.blocks
-    refl (ap (λ es. (v.free + length (entries_of v.chains head)) - length es) (none_below (entries_of v.chains head)) ∙ (let s : (v.free + length (entries_of v.chains head)) - 0 ≡ v.free + length (entries_of v.chains head) = omega arith in s)) refl
+    ∙ same_pool (without v.chains head) (without v.chains head) ((v.free + length (entries_of v.chains head)) - length (below (entries_of v.chains head) 0))
+    (v.free + length (entries_of v.chains head)) v.blocks v.blocks
+    refl (ap (λ es. (v.free + length (entries_of v.chains head)) - length es) (none_below (entries_of v.chains head))
+    ∙ (let s : (v.free + length (entries_of v.chains head)) - 0 ≡ v.free + length (entries_of v.chains head) = omega arith in s)) refl

@@ -44,7 +44,8 @@ module _ (size used limit : ℕ) (bytes : List ℕ) (full : length bytes ≡ use
       subst (λ w. ◌≡◌ {A = RegionBytes} (record { blocks = parts size (used + 1) result; limit = limit }) (record w { blocks = readied size w.blocks block })) is
       (ap (λ bs. record { blocks = bs; limit = limit })
       (ap (λ n. parts size n result) (let s : used + 1 ≡ suc used = omega arith in s) ∙ ap (parts size (suc used)) f ∙ parts_more size used bytes (zeros size) full (length-zeros size)
-      ∙ sym (ap (λ t. cond t (parts size used bytes ++ zeros size ∷ []) (set (parts size used bytes) block (zeros size))) (eq-eqb block (length (parts size used bytes)) (e ∙ sym (length-parts size used bytes))))))
+      ∙ sym (ap (λ t. cond t (parts size used bytes ++ zeros size ∷ []) (set (parts size used bytes) block (zeros size)))
+      (eq-eqb block (length (parts size used bytes)) (e ∙ sym (length-parts size used bytes))))))
 
   -- a block of zeros in place of one that was used
   pub part_cleared : (block : ℕ) (result : List ℕ) → block ≤ length v.blocks → block ≢ used → result ≡ overwritten bytes (block * size) (zeros size)
@@ -57,4 +58,5 @@ module _ (size used limit : ℕ) (bytes : List ℕ) (full : length bytes ≡ use
       (ap (parts size used) (e ∙ ap (λ k. overwritten bytes k (zeros size)) (let z : block * size ≡ block * size + 0 = omega arith in z))
       ∙ parts_overwritten size used block 0 bytes (zeros size) lt full (omega arith)
       ∙ ap (set (parts size used bytes) block) (whole_overwritten (get_or (parts size used bytes) block []) (zeros size) (length-part size used block bytes lt full ∙ sym zero_len))
-      ∙ sym (ap (λ t. cond t (parts size used bytes ++ zeros size ∷ []) (set (parts size used bytes) block (zeros size))) (ne_eqb block (length (parts size used bytes)) (λ p. apart (p ∙ length-parts size used bytes))))))
+      ∙ sym (ap (λ t. cond t (parts size used bytes ++ zeros size ∷ []) (set (parts size used bytes) block (zeros size)))
+      (ne_eqb block (length (parts size used bytes)) (λ p. apart (p ∙ length-parts size used bytes))))))

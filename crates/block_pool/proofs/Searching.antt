@@ -68,7 +68,8 @@ module _ (nodes : List Node) (head : ℕ) (w : IsWithin nodes head) where
   abbrev pub Left : ℕ → ℕ → ℕ → Type 0
   Left p steps block = (block ≡ step nodes steps head) × (at (placed nodes (walk nodes (all - steps) block)) p ≡ at (chain_at nodes head) p)
 
-  rest_is : (steps block : ℕ) → steps < all → placed nodes (walk nodes (all - steps) block) ≡ ((node_at nodes block).position, block) ∷ placed nodes (walk nodes (all - (steps + 1)) (node_at nodes block).next)
+  rest_is : (steps block : ℕ) → steps < all
+      → placed nodes (walk nodes (all - steps) block) ≡ ((node_at nodes block).position, block) ∷ placed nodes (walk nodes (all - (steps + 1)) (node_at nodes block).next)
   rest_is steps block lt = ap (λ n. placed nodes (walk nodes n block)) (let s : all - steps ≡ suc (all - (steps + 1)) = omega arith in s)
 
   pub found_now : (p steps block : ℕ) → steps < all → Left p steps block → (node_at nodes block).position ≡ p → at (chain_at nodes head) p ≡ Some block

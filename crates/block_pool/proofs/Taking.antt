@@ -64,10 +64,12 @@ pub put_entries : (m : ChainMap (List ℕ)) (chain : Option ℕ) (es : Entries (
 put_entries m None es s = absurd (false≢true s)
 put_entries m (Some k) es s = ap (λ o. unwrap_or o []) (put_same m k es)
 
-pub IsTaken-more : (was now next : Pool) (chain new : Option ℕ) (count : ℕ) → IsTaken was now chain count → next ≡ put_block now chain new count → IsSome new → Keeps now.chains next.chains chain new → IsTaken was next new (count + 1)
+pub IsTaken-more : (was now next : Pool) (chain new : Option ℕ) (count : ℕ) → IsTaken was now chain count → next ≡ put_block now chain new count → IsSome new → Keeps now.chains next.chains chain new
+    → IsTaken was next new (count + 1)
 IsTaken-more was now next chain new count t put some kept = record {
   pool = put ∙ ap (λ m. record { chains = m; free = now.free - 1; blocks = now.blocks }) chains_are ∙ rest;
-  entries = ap (λ p. entries_of p.chains new) (put ∙ ap (λ m. record { chains = m; free = now.free - 1; blocks = now.blocks }) chains_are) ∙ put_entries was.chains new (zero_blocks 0 (count + 1)) some;
+  entries =
+      ap (λ p. entries_of p.chains new) (put ∙ ap (λ m. record { chains = m; free = now.free - 1; blocks = now.blocks }) chains_are) ∙ put_entries was.chains new (zero_blocks 0 (count + 1)) some;
   kept = Keeps-then was.chains now.chains next.chains None chain new t.kept kept;
   some = some ∙ sym (lt-ltb 0 (count + 1) (omega arith));
 }
@@ -80,7 +82,8 @@ IsTaken-more was now next chain new count t put some kept = record {
 
     rest : record { chains = with_chain was.chains new (zero_blocks 0 (count + 1)); free = now.free - 1; blocks = now.blocks } ≡ take_chain was new (count + 1)
     rest = ap (λ p. record { chains = with_chain was.chains new (zero_blocks 0 (count + 1)); free = p.free - 1; blocks = p.blocks }) t.pool
-        ∙ ap (λ n. record { chains = with_chain was.chains new (zero_blocks 0 (count + 1)); free = n; blocks = was.blocks }) (let e : (was.free - count) - 1 ≡ was.free - (count + 1) = omega arith in e)
+        ∙ ap (λ n. record { chains = with_chain was.chains new (zero_blocks 0 (count + 1)); free = n; blocks = was.blocks })
+        (let e : (was.free - count) - 1 ≡ was.free - (count + 1) = omega arith in e)
 
 pub taken_free : (was now : Pool) (chain : Option ℕ) (count all : ℕ) → IsTaken was now chain count → all ≤ was.free → count < all → nat_lt 0 now.free ≡ true
 taken_free was now chain count all t le lt = ap (λ p. nat_lt 0 p.free) t.pool ∙ lt-ltb 0 (was.free - count) (omega arith)

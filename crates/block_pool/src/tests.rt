@@ -64,7 +64,10 @@ fn a_block_given_back_is_zeros_again(rt: HostRuntime) -> Result<(), Fail> {
     assert_eq!(rt; byte_at(&pool, &chain, 0, 100), Some(9));
     pool.give(chain);
     let mut next = pool.take(0).ok_or("no block")?;
+    assert_eq!(rt; byte_at(&pool, &next, 0, 100), None);
     assert_eq!(rt; insert(&mut pool, &mut next, 7), Some(true));
     assert_eq!(rt; byte_at(&pool, &next, 7, 100), Some(0));
+    let mut other = pool.take(0).ok_or("no block")?;
+    assert_eq!(rt; insert(&mut pool, &mut other, 7), Some(false));
     Ok(())
 }

@@ -1,12 +1,13 @@
 -- Writing block by block: what has been written so far, and what of the source is wanted on the way.
-use Rattle.std.proofs.Common.{◌≡◌, ◌≢◌, ℕ, zero, suc, ◌+◌, ◌-◌, ◌*◌, ◌/◌, ◌<◌, ◌≤◌, max, min, Bool, true, false, cond, not, ◌&&◌, List, [], ◌∷◌, ◌⊎◌, inl, inr, IsTrue, refl, sym, ap, subst, ◌∙◌, length, filter, nat_lt, nat_le, arith}
-use Rattle.std.proofs.lemmas.Bool.{false≢true, cases_eq, cases_lt, cases_Bool, lt-ltb, le-ltb, lt-leb, and_from, and_left, and_right}
+use Rattle.std.proofs.Common.{◌≡◌, ℕ, zero, suc, ◌+◌, ◌-◌, ◌*◌, ◌/◌, ◌<◌, ◌≤◌, max, min, Bool, true, false, cond, not, ◌&&◌, List, ◌⊎◌, inl, inr, refl, sym, ap, subst, ◌∙◌}
+use Rattle.std.proofs.Common.{length, filter, nat_lt, nat_le, arith}
+use Rattle.std.proofs.lemmas.Bool.{lt-ltb, le-ltb, lt-leb, and_from, and_left, and_right}
 use Rattle.block_pool.specs.Chains.{ChainMap}
 use Rattle.block_pool.specs.Pool.{Pool}
 use Rattle.staging_spec.specs.Blocks.{block_size, block_of, numbers_from, is_among, met, put_number, touch}
-use Rattle.staging_spec.specs.Staging.{Staging, needed, written}
-use Rattle.staging_spec.specs.Wanted.{is_source, is_overwritten, wanted_by_write, span}
-use Rattle.staged_file.specs.Sources.{Covers, Holds}
+use Rattle.staging_spec.specs.Staging.{needed, written}
+use Rattle.staging_spec.specs.Wanted.{is_source, is_overwritten, wanted_by_write}
+use Rattle.staging_spec.specs.Slices.{Covers, Holds}
 use Rattle.staged_file.specs.Staged.{StagedFile, IsStaged, byte_at, touched_of, staging_of, bytes_below}
 use Rattle.staged_file.specs.Steps.{Leaves, IsStep, Puts, CanTouch}
 use Rattle.staged_file.proofs.Contents.{bytes-written}
@@ -53,7 +54,8 @@ CanTouch-wanted touched limit first count base_first many block some covers low 
     reach : (i : ℕ) → i / 65536 ≡ block → (is_source touched limit i && not (is_overwritten first count i)) ≡ true → (base_first ≤ i) × (i < base_first + many)
     reach i e t =
         let len = length-met first count some in
-        let r = span_reaches (λ byte. is_source touched limit byte && not (is_overwritten first count byte)) (block_of first * block_size) (length (met first count) * block_size) i (omega arith) (omega arith) t in
+        let r = span_reaches (λ byte. is_source touched limit byte && not (is_overwritten first count byte)) (block_of first * block_size) (length (met first count) * block_size) i
+        (omega arith) (omega arith) t in
         let c = covers r.0 in
         let a = r.1 in let b = r.2 in let d = c.0 in let f = c.1 in
         ((omega arith), (omega arith))
@@ -99,7 +101,8 @@ module _ (was : Pool) (old : StagedFile) (now : Pool) (new : StagedFile) (first 
 
   module _ (after : Pool) (next : StagedFile) (step : IsStep now new after next) (touched : touched_of after.chains next ≡ put_number (touched_of now.chains new) block)
       (free : after.free + cond (is_among (touched_of now.chains new) block) 0 1 ≡ now.free)
-      (bytes : (source : List ℕ) → Holds source base_first base → Puts (byte_at now.chains new source) (byte_at after.chains next source) (max first (block * 65536)) (min (first + length from) ((block + 1) * 65536)) first from) where
+      (bytes : (source : List ℕ) → Holds source base_first base
+      → Puts (byte_at now.chains new source) (byte_at after.chains next source) (max first (block * 65536)) (min (first + length from) ((block + 1) * 65536)) first from) where
     enough : (t : Bool) → is_among (touched_of was.chains old) block ≡ t → new_ones (touched_of was.chains old) (block + 1) (last_block first (length from) + 1 - (block + 1)) ≤ after.free
     enough true e =
         let p = peeled ∙ ap (λ t. cond t 0 1 + new_ones (touched_of was.chains old) (block + 1) (last_block first (length from) + 1 - (block + 1))) e in
@@ -118,7 +121,8 @@ module _ (was : Pool) (old : StagedFile) (now : Pool) (new : StagedFile) (first 
           ∙ sym (touch-more (touched_of was.chains old) (first / 65536) (block - first / 65536))
           ∙ ap (λ n. touch (touched_of was.chains old) (numbers_from (first / 65536) n)) (let e : (block - first / 65536) + 1 ≡ (block + 1) - first / 65536 = omega arith in e);
       enough = enough (is_among (touched_of was.chains old) block) refl;
-      bytes = λ source holds. Puts-then (byte_at was.chains old source) (byte_at now.chains new source) (byte_at after.chains next source) first (min (first + length from) (block * 65536)) (max first (block * 65536)) (min (first + length from) ((block + 1) * 65536)) from
+      bytes = λ source holds. Puts-then (byte_at was.chains old source) (byte_at now.chains new source) (byte_at after.chains next source) first (min (first + length from) (block * 65536))
+          (max first (block * 65536)) (min (first + length from) ((block + 1) * 65536)) from
           (omega arith) (omega arith) (λ lt. omega arith) (far.bytes source holds) (bytes source holds);
     }
 
@@ -130,7 +134,9 @@ module _ (was : Pool) (old : StagedFile) (now : Pool) (new : StagedFile) (first 
       ∙ ap (touch (touched_of was.chains old)) (sym (met-numbers first (length from) some))
 
   pub all-bytes : (source : List ℕ) → Holds source base_first base → Puts (byte_at was.chains old source) (byte_at now.chains new source) first (first + length from) first from
-  all-bytes source holds = subst (λ n. Puts (byte_at was.chains old source) (byte_at now.chains new source) first n first from) (let e : min (first + length from) (block * 65536) ≡ first + length from = omega arith in e) (far.bytes source holds)
+  all-bytes source holds =
+      subst (λ n. Puts (byte_at was.chains old source) (byte_at now.chains new source) first n first from) (let e : min (first + length from) (block * 65536) ≡ first + length from = omega arith in e)
+      (far.bytes source holds)
 
 -- ---- the call
 pub IsStaged-reach : (chains : ChainMap (List ℕ)) (old mid : StagedFile) (end : ℕ) → IsStaged chains old → end ≤ 16777216 → mid ≡ record old { size = max old.size end } → IsStaged chains mid

@@ -1,5 +1,6 @@
 -- What stands where after a change of a chain: bytes put, a block of zeros more, blocks cut off.
-use Rattle.std.proofs.Common.{◌≡◌, ◌≢◌, ℕ, zero, suc, ◌+◌, ◌-◌, ◌*◌, ◌/◌, ◌%◌, ◌<◌, ◌≤◌, Bool, true, false, cond, List, [], ◌∷◌, ◌++◌, ◌⊎◌, inl, inr, Option, None, Some, IsSome, IsTrue, is_some, refl, sym, ap, subst, ◌∙◌, length, take, drop, get_or, nat_eq, nat_lt, nat_cmp, arith, length-append, length-take-le, length-drop}
+use Rattle.std.proofs.Common.{◌≡◌, ◌≢◌, ℕ, suc, ◌+◌, ◌-◌, ◌*◌, ◌/◌, ◌%◌, ◌<◌, ◌≤◌, Bool, true, false, cond, List, [], ◌∷◌, ◌++◌, ◌⊎◌, inl, inr, Option, None, Some, IsSome}
+use Rattle.std.proofs.Common.{refl, sym, ap, subst, ◌∙◌, length, take, drop, get_or, nat_eq, nat_lt, arith, length-take-le}
 use Rattle.std.proofs.lemmas.Bool.{false≢true, cases_eq, cases_lt, eq-eqb, ne_eqb, lt-ltb, le-ltb}
 use Rattle.std.proofs.lemmas.List.{get_or_append_left, get_or-append_right, get_or-take, get_or-drop}
 use Rattle.std.specs.FinMap as fin
@@ -7,10 +8,11 @@ use Rattle.std.specs.Map.{set_value}
 use Rattle.std.specs.Option.{unwrap_or}
 use Rattle.staging_spec.specs.Content.{zeros}
 use Rattle.block_pool.specs.Blocks.{overwritten}
-use Rattle.block_pool.specs.Chains.{Entries, ChainMap, Rises, entries_of, replaced, with_chain, without, at, inserted, below, head_of, IsChain}
+use Rattle.block_pool.specs.Chains.{Entries, ChainMap, Rises, entries_of, with_chain, without, at, inserted, below, head_of}
 use Rattle.block_pool.specs.Pool.{Pool, AllSized, IsPool, block_at, put_block, cut_chain, cut_head, write_block}
 use Rattle.block_pool.proofs.Maps.{put_same}
-use Rattle.staged_file.specs.Staged.{shown_byte, byte_in, source_byte, positions}
+use Rattle.staging_spec.specs.Overlays.{byte_in, source_byte}
+use Rattle.staged_file.specs.Staged.{shown_byte, positions}
 use Rattle.staged_file.specs.Steps.{Puts, Zeroes}
 use Rattle.staged_file.proofs.Contents.{get-zeros}
 
@@ -18,7 +20,8 @@ use Rattle.staged_file.proofs.Contents.{get-zeros}
 entries-with : (chains : ChainMap (List ℕ)) (head : ℕ) (es : Entries (List ℕ)) → entries_of (fin.insert chains head es) (Some head) ≡ es
 entries-with chains head es = ap (λ o. unwrap_or o []) (put_same chains head es)
 
-pub entries-put : (pool : Pool) (head new : Option ℕ) (position : ℕ) → IsSome new → entries_of (put_block pool head new position).chains new ≡ inserted (entries_of pool.chains head) position (zeros 65536)
+pub entries-put : (pool : Pool) (head new : Option ℕ) (position : ℕ) → IsSome new
+    → entries_of (put_block pool head new position).chains new ≡ inserted (entries_of pool.chains head) position (zeros 65536)
 entries-put pool head None position some = absurd (false≢true some)
 entries-put pool head (Some new) position some = entries-with (without pool.chains head) new (inserted (entries_of pool.chains head) position (zeros 65536))
 
@@ -28,9 +31,11 @@ entries-written pool None position first bytes some = absurd (false≢true some)
 entries-written pool (Some head) position first bytes some =
     entries-with (without pool.chains (Some head)) head (set_value (nat_eq position) (entries_of pool.chains (Some head)) (overwritten (block_at pool.chains (Some head) position) first bytes))
 
-pub entries-cut : (pool : Pool) (head new : Option ℕ) (position : ℕ) → new ≡ cut_head pool.chains head position → entries_of (cut_chain pool head new position).chains new ≡ below (entries_of pool.chains head) position
+pub entries-cut : (pool : Pool) (head new : Option ℕ) (position : ℕ) → new ≡ cut_head pool.chains head position
+    → entries_of (cut_chain pool head new position).chains new ≡ below (entries_of pool.chains head) position
 entries-cut pool None new position e = subst (λ n. entries_of (cut_chain pool None n position).chains n ≡ []) (sym e) refl
-entries-cut pool (Some head) new position e = subst (λ n. entries_of (cut_chain pool (Some head) n position).chains n ≡ below (entries_of pool.chains (Some head)) position) (sym e) (given (below (entries_of pool.chains (Some head)) position))
+entries-cut pool (Some head) new position e =
+    subst (λ n. entries_of (cut_chain pool (Some head) n position).chains n ≡ below (entries_of pool.chains (Some head)) position) (sym e) (given (below (entries_of pool.chains (Some head)) position))
   where
     given : (fs : Entries (List ℕ)) → entries_of (with_chain (fin.remove pool.chains head) (head_of head fs) fs) (head_of head fs) ≡ fs
     given [] = refl
@@ -53,7 +58,7 @@ pub chain-sized : (pool : Pool) (head : Option ℕ) → IsPool pool → AllSized
 chain-sized pool None is = tt
 chain-sized pool (Some head) is = sized_given (fin.get pool.chains head) (is.sized head)
 
-sized-at : (es : Entries (List ℕ)) (p : ℕ) → AllSized es → IsSome (at es p) → length (unwrap_or (at es p) []) ≡ 65536
+pub sized-at : (es : Entries (List ℕ)) (p : ℕ) → AllSized es → IsSome (at es p) → length (unwrap_or (at es p) []) ≡ 65536
 sized-at [] p all some = absurd (false≢true some)
 sized-at (e ∷ es) p all some = step (nat_eq p e.0) some (sized-at es p all.1)
   where
@@ -86,7 +91,8 @@ pub at-set : (es : Entries (List ℕ)) (p : ℕ) (v : List ℕ) → IsSome (at e
 at-set [] p v some = absurd (false≢true some)
 at-set (e ∷ es) p v some = step (nat_eq p e.0) refl some (at-set es p v)
   where
-    step : (t : Bool) → nat_eq p e.0 ≡ t → IsSome (cond t (Some e.1) (at es p)) → (IsSome (at es p) → at (set_value (nat_eq p) es v) p ≡ Some v) → at (cond t ((e.0, v) ∷ es) (e ∷ set_value (nat_eq p) es v)) p ≡ Some v
+    step : (t : Bool) → nat_eq p e.0 ≡ t → IsSome (cond t (Some e.1) (at es p)) → (IsSome (at es p) → at (set_value (nat_eq p) es v) p ≡ Some v)
+        → at (cond t ((e.0, v) ∷ es) (e ∷ set_value (nat_eq p) es v)) p ≡ Some v
     step true e some more = ap (λ t. cond t (Some v) (at es p)) e
     step false f some more = ap (λ t. cond t (Some e.1) (at (set_value (nat_eq p) es v) p)) f ∙ more some
 
@@ -158,7 +164,8 @@ module _ (es fs : Entries (List ℕ)) (limit : ℕ) (source : List ℕ) (p first
       given None some = absurd (false≢true some)
       given (Some b) some = refl
 
-  elsewhere : (i : ℕ) → (i / 65536 ≡ p → get_or (overwritten block first bytes) (i % 65536) 0 ≡ get_or block (i % 65536) 0) → (i / 65536 ≡ p) ⊎ (i / 65536 ≡ p → ⊥) → shown_byte fs limit source i ≡ shown_byte es limit source i
+  elsewhere : (i : ℕ) → (i / 65536 ≡ p → get_or (overwritten block first bytes) (i % 65536) 0 ≡ get_or block (i % 65536) 0) → (i / 65536 ≡ p) ⊎ (i / 65536 ≡ p → ⊥)
+      → shown_byte fs limit source i ≡ shown_byte es limit source i
   elsewhere i same (inl q) = here i q ∙ same q ∙ sym (was i q)
   elsewhere i same (inr n) = ap (λ o. byte_in o limit source i) (ap (λ es. at es (i / 65536)) e ∙ at-set_other es p (i / 65536) (overwritten block first bytes) n)
 
@@ -170,7 +177,8 @@ module _ (es fs : Entries (List ℕ)) (limit : ℕ) (source : List ℕ) (p first
   }
 
 -- a block of zeros more
-pub zeroes-inserted : (es fs : Entries (List ℕ)) (limit : ℕ) (source : List ℕ) (p : ℕ) → at es p ≡ None → fs ≡ inserted es p (zeros 65536) → Zeroes (shown_byte es limit source) (shown_byte fs limit source) p
+pub zeroes-inserted : (es fs : Entries (List ℕ)) (limit : ℕ) (source : List ℕ) (p : ℕ) → at es p ≡ None → fs ≡ inserted es p (zeros 65536)
+    → Zeroes (shown_byte es limit source) (shown_byte fs limit source) p
 zeroes-inserted es fs limit source p none e = record {
   inside = λ i q. ap (λ o. byte_in o limit source i) (ap (at fs) q ∙ ap (λ es. at es p) e ∙ at-inserted es p (zeros 65536) none) ∙ get-zeros 65536 (i % 65536);
   other = λ i n. ap (λ o. byte_in o limit source i) (ap (λ es. at es (i / 65536)) e ∙ at-inserted_other es p (i / 65536) (zeros 65536) n);

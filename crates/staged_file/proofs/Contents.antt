@@ -1,11 +1,13 @@
 -- Contents from what stands at each place: written, resized and read.
-use Rattle.std.proofs.Common.{◌≡◌, ℕ, zero, suc, ◌+◌, ◌-◌, ◌<◌, ◌≤◌, max, Bool, true, false, cond, List, [], ◌∷◌, ◌++◌, ◌⊎◌, inl, inr, refl, sym, ap, subst, ◌∙◌, length, take, drop, get_or, map, replicate, nat_lt, arith, length-append, length-drop, length-take}
-use Rattle.std.proofs.lemmas.Bool.{cases_lt, lt-ltb, le-ltb}
+use Rattle.std.proofs.Common.{◌≡◌, ℕ, zero, suc, ◌+◌, ◌-◌, ◌<◌, ◌≤◌, max, cond, List, [], ◌∷◌, ◌++◌, ◌⊎◌, inl, inr, refl, sym, ap, ◌∙◌, length, take, drop, get_or, map}
+use Rattle.std.proofs.Common.{replicate, arith, length-append, length-drop, length-take}
+use Rattle.std.proofs.lemmas.Bool.{cases_lt, lt-ltb}
 use Rattle.std.proofs.lemmas.List.{ext_get_or, get_or_append_left, get_or-append_right, get_or-take, get_or-drop, get_or_past}
 use Rattle.staging_spec.specs.Blocks.{numbers_from}
 use Rattle.staging_spec.specs.Content.{zeros, patch, resize}
 use Rattle.staging_spec.proofs.ContentLaws.{length-zeros}
-use Rattle.staged_file.specs.Staged.{bytes_below, source_byte}
+use Rattle.staging_spec.specs.Overlays.{source_byte}
+use Rattle.staged_file.specs.Staged.{bytes_below}
 use Rattle.staged_file.specs.Steps.{Puts}
 
 length-map_numbers : (f : ℕ → ℕ) (first count : ℕ) → length (map f (numbers_from first count)) ≡ count
@@ -146,7 +148,8 @@ bytes-resized was now size less behind same =
         ∙ get-zeros (less - length (bytes_below was size)) (k - length (take less (bytes_below was size))) ∙ sym (same k lt ∙ behind k high)
 
 -- ---- read
-pub bytes-read : (f : ℕ → ℕ) (size first : ℕ) (out : List ℕ) → first + length out ≤ size → ((k : ℕ) → k < length out → get_or out k 0 ≡ f (first + k)) → out ≡ take (length out) (drop first (bytes_below f size))
+pub bytes-read : (f : ℕ → ℕ) (size first : ℕ) (out : List ℕ) → first + length out ≤ size → ((k : ℕ) → k < length out → get_or out k 0 ≡ f (first + k))
+    → out ≡ take (length out) (drop first (bytes_below f size))
 bytes-read f size first out le same =
     let n = length-bytes f size in
     let d = length-drop first (bytes_below f size) in

@@ -1,41 +1,32 @@
 -- What the smallest changes leave: bytes copied into a touched block, and a block of zeros more.
-use Rattle.std.proofs.Common.{◌≡◌, ◌≢◌, ℕ, zero, suc, ◌+◌, ◌-◌, ◌*◌, ◌/◌, ◌%◌, ◌<◌, ◌≤◌, Bool, true, false, cond, ◌||◌, List, [], ◌∷◌, ◌⊎◌, inl, inr, Option, None, Some, IsSome, IsTrue, is_some, refl, sym, ap, subst, ◌∙◌, length, get_or, nat_eq, arith}
-use Rattle.std.proofs.lemmas.Bool.{false≢true, cases_eq, cases_lt, eq-eqb, or_left}
+use Rattle.std.proofs.Common.{◌≡◌, ℕ, ◌+◌, ◌-◌, ◌*◌, ◌/◌, ◌%◌, ◌<◌, ◌≤◌, false, List, [], ◌∷◌, ◌⊎◌, inl, inr, IsSome, IsTrue}
+use Rattle.std.proofs.Common.{refl, sym, ap, subst, ◌∙◌, length, get_or, nat_eq, arith}
+use Rattle.std.proofs.lemmas.Bool.{cases_eq, cases_lt}
+use Rattle.std.proofs.lemmas.List.{length-map}
 use Rattle.std.specs.Map.{set_value}
 use Rattle.std.specs.Option.{unwrap_or}
-use Rattle.staging_spec.specs.Blocks.{is_among, put_number}
+use Rattle.staging_spec.specs.Blocks.{is_among, put_number, AllOver, Rise}
 use Rattle.staging_spec.specs.Content.{zeros}
+use Rattle.staging_spec.proofs.BlockLaws.{touched_few}
 use Rattle.block_pool.specs.Blocks.{overwritten}
-use Rattle.block_pool.specs.Chains.{Entries, ChainMap, Rises, AllAbove, entries_of, at, inserted, IsChain}
+use Rattle.block_pool.specs.Chains.{Entries, Rises, AllAbove, entries_of, at, inserted, IsChain}
 use Rattle.block_pool.specs.Pool.{Pool, Keeps, IsPool, put_block, write_block}
 use Rattle.staged_file.specs.Staged.{StagedFile, IsStaged, byte_at, shown_byte, positions, touched_of}
-use Rattle.staged_file.specs.Steps.{Leaves, IsStep, Puts, Zeroes}
+use Rattle.staged_file.specs.Steps.{IsStep, Puts, Zeroes}
 use Rattle.staged_file.proofs.Positions.{among-positions, none-among, among-either, positions-inserted, positions-held}
 use Rattle.staged_file.proofs.Chains.{entries-put, entries-written, chain-rises, chain-sized, puts-set, zeroes-inserted, length-inserted, length-set_one, positions-set}
 
 -- ---- touched blocks of a content are at most its blocks
-later_among : (n b : ℕ) (t : Bool) → t ≡ true → (nat_eq n b || t) ≡ true
-later_among n b true e = step (nat_eq n b)
-  where
-    step : (u : Bool) → (u || true) ≡ true
-    step true = refl
-    step false = refl
-later_among n b false e = absurd (false≢true e)
+over-positions : (low : ℕ) (es : Entries (List ℕ)) → AllAbove low es → AllOver low (positions es)
+over-positions low [] above = tt
+over-positions low (e ∷ es) above = (above.0, over-positions low es above.1)
 
-few_above : (es : Entries (List ℕ)) (low size : ℕ) → AllAbove low es → Rises es → ((b : ℕ) → IsTrue (is_among (positions es) b) → b * 65536 < size) → low * 65536 < size → (length es + low) * 65536 < size
-few_above [] low size above rises inside lt = omega arith
-few_above (e ∷ es) low size above rises inside lt =
-    let here : e.0 * 65536 < size = inside e.0 (or_left (nat_eq e.0 e.0) (is_among (positions es) e.0) (eq-eqb e.0 e.0 refl)) in
-    let more = few_above es e.0 size rises.0 rises.1 (λ b t. inside b (later_among e.0 b (is_among (positions es) b) t)) here in
-    let a = above.0 in
-    omega arith
+rise-positions : (es : Entries (List ℕ)) → Rises es → Rise (positions es)
+rise-positions [] rises = tt
+rise-positions (e ∷ es) rises = (over-positions e.0 es rises.0, rise-positions es rises.1)
 
 pub few_touched : (es : Entries (List ℕ)) (size : ℕ) → Rises es → ((b : ℕ) → IsTrue (is_among (positions es) b) → b * 65536 < size) → length es * 65536 < size + 65536
-few_touched [] size rises inside = omega arith
-few_touched (e ∷ es) size rises inside =
-    let here : e.0 * 65536 < size = inside e.0 (or_left (nat_eq e.0 e.0) (is_among (positions es) e.0) (eq-eqb e.0 e.0 refl)) in
-    let more = few_above es e.0 size rises.0 rises.1 (λ b t. inside b (later_among e.0 b (is_among (positions es) b) t)) here in
-    omega arith
+few_touched es size rises inside = subst (λ n. n * 65536 < size + 65536) (length-map es (λ e. e.0)) (touched_few (positions es) size (rise-positions es rises) inside)
 
 -- ---- bytes are copied into a touched block
 pub record IsCopied (was now : Pool) (old new : StagedFile) (low : ℕ) (part : List ℕ) : Type 0 where

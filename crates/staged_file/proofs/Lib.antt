@@ -9,3 +9,4 @@ pub mod Wanting
 pub mod Shortening
 pub mod PartsRead
 pub mod Copies
+pub mod Overlay

@@ -1,13 +1,15 @@
 -- Parts of a content that are read into parts of a slice.
-use Rattle.std.proofs.Common.{◌≡◌, ℕ, zero, suc, ◌+◌, ◌-◌, ◌*◌, ◌/◌, ◌%◌, ◌<◌, ◌≤◌, max, min, Bool, true, false, cond, not, ◌&&◌, List, [], ◌∷◌, ◌++◌, ◌⊎◌, inl, inr, Option, None, Some, IsSome, refl, sym, ap, subst, ◌∙◌, length, take, drop, get_or, replicate, nat_lt, arith, length-append, length-drop, length-take-le}
-use Rattle.std.proofs.lemmas.Bool.{false≢true, cases_lt, lt-ltb, le-ltb, and_from}
+use Rattle.std.proofs.Common.{◌≡◌, ℕ, ◌+◌, ◌-◌, ◌*◌, ◌/◌, ◌%◌, ◌<◌, ◌≤◌, max, min, true, false, not, List, [], ◌++◌, ◌⊎◌, inl, inr, Option, None, Some, IsSome}
+use Rattle.std.proofs.Common.{refl, sym, ap, ◌∙◌, length, take, drop, get_or, replicate, nat_lt, arith, length-drop, length-take-le}
+use Rattle.std.proofs.lemmas.Bool.{false≢true, cases_lt, lt-ltb, and_from}
 use Rattle.std.proofs.lemmas.List.{get_or_append_left, get_or-append_right, get_or-take, get_or-drop}
 use Rattle.std.specs.Option.{unwrap_or}
 use Rattle.block_pool.specs.Chains.{Entries, at}
-use Rattle.staging_spec.specs.Blocks.{is_among, numbers_from}
+use Rattle.staging_spec.specs.Blocks.{is_among}
 use Rattle.staging_spec.specs.Wanted.{is_source, wanted_by_read}
-use Rattle.staged_file.specs.Sources.{Covers, Holds}
-use Rattle.staged_file.specs.Staged.{byte_in, shown_byte, source_byte}
+use Rattle.staging_spec.specs.Slices.{Covers, Holds}
+use Rattle.staging_spec.specs.Overlays.{byte_in, source_byte}
+use Rattle.staged_file.specs.Staged.{shown_byte}
 use Rattle.staged_file.specs.Steps.{CanRead, Reads}
 use Rattle.staged_file.proofs.Contents.{get_replicate}
 use Rattle.staged_file.proofs.Spans.{span_reaches}
@@ -42,7 +44,8 @@ part-block es limit source low count k some fits lt =
     given (Some b) some = refl
 
 -- ---- out of the source
-module _ (limit low base_first kept : ℕ) (source base was : List ℕ) (holds : Holds source base_first base) (can : CanRead limit low (low + length was) base_first (length base)) (kept_is : kept ≡ min (limit - low) (length was)) where
+module _ (limit low base_first kept : ℕ) (source base was : List ℕ) (holds : Holds source base_first base) (can : CanRead limit low (low + length was) base_first (length base))
+    (kept_is : kept ≡ min (limit - low) (length was)) where
   kept_fits : kept ≤ length (drop (low - base_first) base)
   kept_fits = decide (cases_lt 0 kept)
     where
@@ -81,7 +84,8 @@ Reads-mid shown first xs part low high a b c len same =
           get_or-append_right (take (low - first) xs) (part ++ drop ((high - first) - (low - first)) (drop (low - first) xs)) (low - first) (i - first) 0 front (omega arith)
           ∙ get_or_append_left part (drop ((high - first) - (low - first)) (drop (low - first) xs)) 0 ((i - first) - (low - first)) (omega arith)
           ∙ same ((i - first) - (low - first)) (omega arith) ∙ ap shown (let e : low + ((i - first) - (low - first)) ≡ i = omega arith in e);
-      below = λ k lt. get_or_append_left (take (low - first) xs) (part ++ drop ((high - first) - (low - first)) (drop (low - first) xs)) 0 k (omega arith) ∙ get_or-take (low - first) xs k 0 (omega arith);
+      below = λ k lt. get_or_append_left (take (low - first) xs) (part ++ drop ((high - first) - (low - first)) (drop (low - first) xs)) 0 k (omega arith)
+          ∙ get_or-take (low - first) xs k 0 (omega arith);
       above = λ k ge.
           get_or-append_right (take (low - first) xs) (part ++ drop ((high - first) - (low - first)) (drop (low - first) xs)) (low - first) k 0 front (omega arith)
           ∙ get_or-append_right part (drop ((high - first) - (low - first)) (drop (low - first) xs)) ((high - first) - (low - first)) (k - (low - first)) 0 len (omega arith)
@@ -102,6 +106,7 @@ pub IsRead-more : (shown : List ℕ → ℕ → ℕ) (first count base_first : �
     → IsRead shown first base_first base other (min (first + count) ((block + 1) * 65536))
 IsRead-more shown first count base_first base out other block far reads = record { bytes = λ source holds i a b. at source holds i a b (cases_lt i (max first (block * 65536))) }
   where
-    at : (source : List ℕ) → Holds source base_first base → (i : ℕ) → first ≤ i → i < min (first + count) ((block + 1) * 65536) → (i < max first (block * 65536)) ⊎ (max first (block * 65536) ≤ i) → get_or other (i - first) 0 ≡ shown source i
+    at : (source : List ℕ) → Holds source base_first base → (i : ℕ) → first ≤ i → i < min (first + count) ((block + 1) * 65536) → (i < max first (block * 65536)) ⊎ (max first (block * 65536) ≤ i)
+        → get_or other (i - first) 0 ≡ shown source i
     at source holds i a b (inl lt) = (reads source holds).below (i - first) (omega arith) ∙ far.bytes source holds i a (omega arith)
     at source holds i a b (inr ge) = (reads source holds).inside i ge b

@@ -1,6 +1,7 @@
 -- Touched blocks as numbers that rise: one more, those that are cut off, and those that a range newly meets.
-use Rattle.std.proofs.Common.{◌≡◌, ◌≢◌, ℕ, zero, suc, ◌+◌, ◌-◌, ◌*◌, ◌<◌, ◌≤◌, Bool, true, false, cond, not, ◌||◌, List, [], ◌∷◌, ◌++◌, ◌⊎◌, inl, inr, Option, None, Some, IsTrue, is_some, refl, sym, ap, subst, ◌∙◌, length, map, filter, nat_eq, nat_lt, arith, length-append}
-use Rattle.std.proofs.lemmas.Bool.{false≢true, cases_eq, cases_lt, cases_Bool, eq-eqb, ne_eqb, lt-ltb, le-ltb, or_left, or_from, ltb-true}
+use Rattle.std.proofs.Common.{◌≡◌, ◌≢◌, ℕ, zero, suc, ◌+◌, ◌-◌, ◌*◌, ◌<◌, ◌≤◌, Bool, true, false, cond, not, ◌||◌, List, [], ◌∷◌, ◌++◌, ◌⊎◌, inl, inr, Option, None, Some, IsTrue, is_some, refl}
+use Rattle.std.proofs.Common.{sym, ap, subst, ◌∙◌, length, filter, nat_eq, nat_lt, arith}
+use Rattle.std.proofs.lemmas.Bool.{false≢true, cases_eq, cases_Bool, eq-eqb, ne_eqb, lt-ltb, le-ltb, or_left}
 use Rattle.block_pool.specs.Chains.{Entries, AllAbove, Rises, at, inserted, below}
 use Rattle.staging_spec.specs.Blocks.{block_size, numbers_from, is_among, put_number, touch, untouch}
 use Rattle.staged_file.specs.Staged.{positions}
@@ -80,7 +81,8 @@ pub positions-held : (es : Entries (List ℕ)) (p : ℕ) → Rises es → IsTrue
 positions-held [] p rises t = absurd (false≢true t)
 positions-held (e ∷ es) p rises t = decide (cases_eq e.0 p) t (positions-held es p rises.1)
   where
-    decide : (e.0 ≡ p) ⊎ (e.0 ≡ p → ⊥) → (nat_eq e.0 p || is_among (positions es) p) ≡ true → (IsTrue (is_among (positions es) p) → put_number (positions es) p ≡ positions es) → put_number (positions (e ∷ es)) p ≡ positions (e ∷ es)
+    decide : (e.0 ≡ p) ⊎ (e.0 ≡ p → ⊥) → (nat_eq e.0 p || is_among (positions es) p) ≡ true → (IsTrue (is_among (positions es) p) → put_number (positions es) p ≡ positions es)
+        → put_number (positions (e ∷ es)) p ≡ positions (e ∷ es)
     decide (inl s) t more =
         ap (λ u. cond u (p ∷ e.0 ∷ positions es) (cond (nat_eq e.0 p) (e.0 ∷ positions es) (e.0 ∷ put_number (positions es) p))) (le-ltb p e.0 (omega arith))
         ∙ ap (λ u. cond u (e.0 ∷ positions es) (e.0 ∷ put_number (positions es) p)) (eq-eqb e.0 p s)
@@ -96,7 +98,8 @@ pub positions-below : (es : Entries (List ℕ)) (place size : ℕ) → ((b : ℕ
 positions-below [] place size same = refl
 positions-below (e ∷ es) place size same = step (nat_lt e.0 place) (nat_lt (e.0 * block_size) size) (same e.0) (positions-below es place size same)
   where
-    step : (t u : Bool) → t ≡ u → positions (below es place) ≡ untouch (positions es) size → positions (cond t (e ∷ below es place) (below es place)) ≡ cond u (e.0 ∷ untouch (positions es) size) (untouch (positions es) size)
+    step : (t u : Bool) → t ≡ u → positions (below es place) ≡ untouch (positions es) size
+        → positions (cond t (e ∷ below es place) (below es place)) ≡ cond u (e.0 ∷ untouch (positions es) size) (untouch (positions es) size)
     step true true s more = ap (λ ns. e.0 ∷ ns) more
     step true false s more = absurd (false≢true (sym s))
     step false true s more = absurd (false≢true s)
@@ -144,7 +147,8 @@ filter-push p [] n = given (p n)
     given false = refl
 filter-push p (m ∷ ms) n = given (p m) (filter-push p ms n)
   where
-    given : (t : Bool) → length (filter p (ms ++ n ∷ [])) ≡ length (filter p ms) + cond (p n) 1 0 → length (cond t (m ∷ filter p (ms ++ n ∷ [])) (filter p (ms ++ n ∷ []))) ≡ length (cond t (m ∷ filter p ms) (filter p ms)) + cond (p n) 1 0
+    given : (t : Bool) → length (filter p (ms ++ n ∷ [])) ≡ length (filter p ms) + cond (p n) 1 0
+        → length (cond t (m ∷ filter p (ms ++ n ∷ [])) (filter p (ms ++ n ∷ []))) ≡ length (cond t (m ∷ filter p ms) (filter p ms)) + cond (p n) 1 0
     given true more = omega arith
     given false more = more
 
@@ -160,7 +164,8 @@ new-more ns first count = ap (λ ms. length (filter (λ block. not (is_among ns 
 pub new-first : (ns : List ℕ) (first count : ℕ) → new_ones ns first (suc count) ≡ cond (is_among ns first) 0 1 + new_ones ns (first + 1) count
 new-first ns first count = given (is_among ns first)
   where
-    given : (t : Bool) → length (cond (not t) (first ∷ filter (λ block. not (is_among ns block)) (numbers_from (first + 1) count)) (filter (λ block. not (is_among ns block)) (numbers_from (first + 1) count)))
+    given : (t : Bool)
+        → length (cond (not t) (first ∷ filter (λ block. not (is_among ns block)) (numbers_from (first + 1) count)) (filter (λ block. not (is_among ns block)) (numbers_from (first + 1) count)))
         ≡ cond t 0 1 + new_ones ns (first + 1) count
     given true = omega arith
     given false = omega arith
@@ -174,7 +179,8 @@ new-few ns first (suc count) = let e = new-first ns first count in let le = new-
     at false e le = omega arith
 
 -- the count goes on by one where a block is not touched
-pub new-counted : (ns : List ℕ) (front block count : ℕ) (t : Bool) → front ≤ block → is_among ns block ≡ t → count ≡ new_ones ns front (block - front) → count + cond t 0 1 ≡ new_ones ns front (block + 1 - front)
+pub new-counted : (ns : List ℕ) (front block count : ℕ) (t : Bool) → front ≤ block → is_among ns block ≡ t → count ≡ new_ones ns front (block - front)
+    → count + cond t 0 1 ≡ new_ones ns front (block + 1 - front)
 new-counted ns front block count t le e c =
     ap (λ n. n + cond t 0 1) c ∙ ap (λ u. new_ones ns front (block - front) + cond u 0 1) (sym e ∙ ap (is_among ns) (let at : block ≡ front + (block - front) = omega arith in at))
     ∙ sym (new-more ns front (block - front)) ∙ ap (new_ones ns front) (let at : (block - front) + 1 ≡ block + 1 - front = omega arith in at)

@@ -1,22 +1,20 @@
 -- Blocks cut off, the end of a block cleared, and a content of another length.
-use Rattle.std.proofs.Common.{◌≡◌, ◌≢◌, ℕ, zero, suc, ◌+◌, ◌-◌, ◌*◌, ◌/◌, ◌%◌, ◌<◌, ◌≤◌, max, min, Bool, true, false, cond, ◌||◌, List, [], ◌∷◌, ◌⊎◌, inl, inr, Option, None, Some, IsSome, IsTrue, is_some, refl, sym, ap, subst, ◌∙◌, length, get_or, nat_eq, nat_lt, arith}
+use Rattle.std.proofs.Common.{◌≡◌, ℕ, ◌+◌, ◌-◌, ◌*◌, ◌/◌, ◌%◌, ◌<◌, ◌≤◌, max, min, true, false, cond, ◌||◌, List, [], ◌∷◌, ◌⊎◌, inl, inr, Option, None, Some, IsSome, IsTrue}
+use Rattle.std.proofs.Common.{refl, sym, ap, subst, ◌∙◌, length, get_or, nat_eq, nat_lt, arith}
 use Rattle.std.proofs.lemmas.Bool.{false≢true, cases_eq, cases_lt, cases_Bool, lt-ltb, le-ltb, eq-eqb, ne_eqb, or_left, or_right}
-use Rattle.std.specs.Map.{set_value}
-use Rattle.std.specs.Option.{unwrap_or}
 use Rattle.staging_spec.specs.Blocks.{block_size, is_among, untouch}
 use Rattle.staging_spec.specs.Content.{zeros}
-use Rattle.staging_spec.specs.Staging.{Staging, resized}
+use Rattle.staging_spec.specs.Staging.{resized}
 use Rattle.staging_spec.proofs.ContentLaws.{length-zeros}
-use Rattle.block_pool.specs.Blocks.{overwritten}
-use Rattle.block_pool.specs.Chains.{Entries, ChainMap, entries_of, at, below, IsChain}
+use Rattle.block_pool.specs.Chains.{Entries, entries_of, at, below}
 use Rattle.block_pool.specs.Pool.{Pool, Keeps, IsPool, cut_chain, cut_head, write_block}
-use Rattle.staged_file.specs.Staged.{StagedFile, IsStaged, byte_at, shown_byte, byte_in, source_byte, bytes_below, positions, touched_of, staging_of}
-use Rattle.staged_file.specs.Steps.{Leaves, IsStep, Puts, Clears}
+use Rattle.staging_spec.specs.Overlays.{byte_in, source_byte}
+use Rattle.staged_file.specs.Staged.{StagedFile, IsStaged, byte_at, shown_byte, bytes_below, positions, touched_of, staging_of}
+use Rattle.staged_file.specs.Steps.{Leaves, IsStep, Clears}
 use Rattle.staged_file.proofs.Contents.{get-zeros, bytes-resized}
 use Rattle.staged_file.proofs.Positions.{among-positions, none-among, positions-below, untouch-none}
 use Rattle.staged_file.proofs.Chains.{entries-cut, at-below, at-below_none, length-below}
 use Rattle.staged_file.proofs.Leaves.{IsCopied, copied-step, copied-touched, copied-bytes}
-use Rattle.staged_file.proofs.Touching.{Leaves-then}
 
 -- ---- what is left of touched blocks
 pub among-untouch : (ns : List ℕ) (size b : ℕ) → IsTrue (is_among (untouch ns size) b) → (b * block_size < size) × IsTrue (is_among ns b)
@@ -30,7 +28,8 @@ among-untouch (n ∷ ns) size b t = step (cases_lt (n * block_size) size) (among
         pick : (n ≡ b) ⊎ (n ≡ b → ⊥) → (nat_eq n b || is_among (untouch ns size) b) ≡ true → (b * block_size < size) × IsTrue (is_among (n ∷ ns) b)
         pick (inl e) t = (subst (λ m. m * block_size < size) e lt, or_left (nat_eq n b) (is_among ns b) (eq-eqb n b e))
         pick (inr d) t = let m = more (sym (ap (λ u. u || is_among (untouch ns size) b) (ne_eqb n b d)) ∙ t) in (m.0, or_right (nat_eq n b) (is_among ns b) m.1)
-    step (inr ge) more t = let m = more (sym (ap (λ u. is_among (cond u (n ∷ untouch ns size) (untouch ns size)) b) (le-ltb (n * block_size) size ge)) ∙ t) in (m.0, or_right (nat_eq n b) (is_among ns b) m.1)
+    step (inr ge) more t =
+        let m = more (sym (ap (λ u. is_among (cond u (n ∷ untouch ns size) (untouch ns size)) b) (le-ltb (n * block_size) size ge)) ∙ t) in (m.0, or_right (nat_eq n b) (is_among ns b) m.1)
 
 -- ---- blocks are cut off
 pub record IsCut (was now : Pool) (old new : StagedFile) (place len : ℕ) : Type 0 where
@@ -103,7 +102,8 @@ module _ (was now : Pool) (old new : StagedFile) (place len : ℕ) (cut : IsCut 
     staged = record {
       chain = cut.kept.chain;
       count = fewer;
-      inside = λ b t. let m = among-untouch (touched_of was.chains old) len b (subst (λ ns. IsTrue (is_among ns b)) cut-touched t) in let i = cut.staged.inside b m.1 in let s = cut_size in omega arith;
+      inside =
+          λ b t. let m = among-untouch (touched_of was.chains old) len b (subst (λ ns. IsTrue (is_among ns b)) cut-touched t) in let i = cut.staged.inside b m.1 in let s = cut_size in omega arith;
       behind = behind;
       limits = ((let l = cut.staged.limits.0 in let a = cut_limit in let b = cut_base in omega arith), (let l = cut.staged.limits.1 in let a = cut_limit in let b = cut_size in omega arith));
       most = ((let m = cut.staged.most.0 in let b = cut_base in omega arith), (let m = cut.staged.most.1 in let b = cut_size in omega arith));
@@ -194,7 +194,9 @@ module _ (was : Pool) (old : StagedFile) (now : Pool) (file new : StagedFile) (l
   after source i ge = decide (cases_Bool (is_among (touched_of now.chains file) (i / 65536)))
     where
       decide : (is_among (touched_of now.chains file) (i / 65536) ≡ true) ⊎ (is_among (touched_of now.chains file) (i / 65536) ≡ false) → byte_at now.chains cutoff source i ≡ 0
-      decide (inl t) = limit_any (at (entries_of now.chains file.chain) (i / 65536)) (min file.limit len) file.limit source i (sym (among-positions (entries_of now.chains file.chain) (i / 65536)) ∙ t) ∙ cleared source i ge t
+      decide (inl t) =
+          limit_any (at (entries_of now.chains file.chain) (i / 65536)) (min file.limit len) file.limit source i (sym (among-positions (entries_of now.chains file.chain) (i / 65536)) ∙ t)
+          ∙ cleared source i ge t
       decide (inr f) = ap (λ o. byte_in o (min file.limit len) source i) (none-among (entries_of now.chains file.chain) (i / 65536) f)
           ∙ ap (λ t. cond t (get_or source i 0) 0) (le-ltb i (min file.limit len) (omega arith))
 

@@ -1,9 +1,9 @@
 -- From what passes a test along a range to the span of the numbers that pass it.
-use Rattle.std.proofs.Common.{◌≡◌, ℕ, zero, suc, ◌+◌, ◌-◌, ◌<◌, ◌≤◌, Bool, true, false, cond, List, [], ◌∷◌, ◌⊎◌, inl, inr, refl, sym, ap, subst, ◌∙◌, filter, arith}
-use Rattle.std.proofs.lemmas.Bool.{false≢true, cases_lt, cases_eq, cases_Bool}
+use Rattle.std.proofs.Common.{◌≡◌, ℕ, zero, suc, ◌+◌, ◌-◌, ◌<◌, ◌≤◌, Bool, true, false, cond, List, [], ◌∷◌, ◌⊎◌, inl, inr, refl, sym, ap, ◌∙◌, filter, arith}
+use Rattle.std.proofs.lemmas.Bool.{false≢true, cases_lt, cases_eq}
 use Rattle.staging_spec.specs.Blocks.{numbers_from}
 use Rattle.staging_spec.specs.Wanted.{Range, last_of, span}
-use Rattle.staged_file.specs.Spans.{Spans, IsRun, IsRest}
+use Rattle.staged_file.specs.Spans.{Spans, IsRun}
 
 -- ---- a run more
 module _ (test : ℕ → Bool) (low mid high first end from upto : ℕ) (spans : Spans test low mid first end) (run : IsRun test low mid high from upto) where
@@ -154,7 +154,8 @@ span_reaches test low (suc count) i a b t = step (test low) refl (cases_eq i low
     reach m h from zero le = h
     reach m h from (suc many) le = pick (test from) (reach m h (from + 1) many (omega arith)) (reach from le (from + 1) many (omega arith))
       where
-        pick : (t : Bool) → low ≤ last_of m (filter test (numbers_from (from + 1) many)) → low ≤ last_of from (filter test (numbers_from (from + 1) many)) → low ≤ last_of m (cond t (from ∷ filter test (numbers_from (from + 1) many)) (filter test (numbers_from (from + 1) many)))
+        pick : (t : Bool) → low ≤ last_of m (filter test (numbers_from (from + 1) many)) → low ≤ last_of from (filter test (numbers_from (from + 1) many))
+            → low ≤ last_of m (cond t (from ∷ filter test (numbers_from (from + 1) many)) (filter test (numbers_from (from + 1) many)))
         pick true x y = y
         pick false x y = x
 
@@ -164,10 +165,13 @@ span_reaches test low (suc count) i a b t = step (test low) refl (cases_eq i low
     longer (n ∷ ns) some lt le = omega arith
 
     step : (t : Bool) → test low ≡ t → (i ≡ low) ⊎ (i ≡ low → ⊥)
-        → ((i ≡ low → ⊥) → (0 < (span (filter test (numbers_from (low + 1) count))).count) × ((span (filter test (numbers_from (low + 1) count))).first ≤ i) × (i < (span (filter test (numbers_from (low + 1) count))).first + (span (filter test (numbers_from (low + 1) count))).count))
+        → ((i ≡ low → ⊥)
+        → (0 < (span (filter test (numbers_from (low + 1) count))).count) × ((span (filter test (numbers_from (low + 1) count))).first ≤ i)
+        × (i < (span (filter test (numbers_from (low + 1) count))).first + (span (filter test (numbers_from (low + 1) count))).count))
         → (0 < (span (cond t (low ∷ filter test (numbers_from (low + 1) count)) (filter test (numbers_from (low + 1) count)))).count)
         × ((span (cond t (low ∷ filter test (numbers_from (low + 1) count)) (filter test (numbers_from (low + 1) count)))).first ≤ i)
-        × (i < (span (cond t (low ∷ filter test (numbers_from (low + 1) count)) (filter test (numbers_from (low + 1) count)))).first + (span (cond t (low ∷ filter test (numbers_from (low + 1) count)) (filter test (numbers_from (low + 1) count)))).count)
+        × (i < (span (cond t (low ∷ filter test (numbers_from (low + 1) count)) (filter test (numbers_from (low + 1) count)))).first
+        + (span (cond t (low ∷ filter test (numbers_from (low + 1) count)) (filter test (numbers_from (low + 1) count)))).count)
     step true e (inl s) rec = let le = reach low (omega arith) (low + 1) count (omega arith) in ((omega arith), (omega arith), (omega arith))
     step true e (inr n) rec =
         let r = rec n in

@@ -1,13 +1,15 @@
 -- Steps one after another, and what a block shows that is touched for a write.
-use Rattle.std.proofs.Common.{◌≡◌, ◌≢◌, ℕ, zero, suc, ◌+◌, ◌-◌, ◌*◌, ◌/◌, ◌%◌, ◌<◌, ◌≤◌, max, min, Bool, true, false, cond, List, [], ◌∷◌, ◌⊎◌, inl, inr, Option, None, Some, IsSome, IsTrue, refl, sym, ap, subst, ◌∙◌, length, take, drop, get_or, nat_lt, arith, length-drop, length-take-le}
+use Rattle.std.proofs.Common.{◌≡◌, ◌≢◌, ℕ, ◌+◌, ◌-◌, ◌*◌, ◌/◌, ◌<◌, ◌≤◌, max, min, false, cond, List, ◌⊎◌, inl, inr, Option, Some, IsSome, IsTrue, refl}
+use Rattle.std.proofs.Common.{sym, ap, subst, ◌∙◌, length, take, drop, get_or, arith, length-drop, length-take-le}
 use Rattle.std.proofs.lemmas.Bool.{cases_eq, cases_lt, lt-ltb, le-ltb}
 use Rattle.std.proofs.lemmas.List.{get_or-take, get_or-drop}
 use Rattle.std.specs.FinMap as fin
 use Rattle.block_pool.specs.Chains.{ChainMap, entries_of}
 use Rattle.block_pool.specs.Pool.{Pool, Keeps}
 use Rattle.staging_spec.specs.Blocks.{is_among}
-use Rattle.staged_file.specs.Sources.{Holds}
-use Rattle.staged_file.specs.Staged.{StagedFile, IsStaged, byte_at, source_byte, touched_of}
+use Rattle.staging_spec.specs.Slices.{Holds}
+use Rattle.staging_spec.specs.Overlays.{source_byte}
+use Rattle.staged_file.specs.Staged.{StagedFile, IsStaged, byte_at, touched_of}
 use Rattle.staged_file.specs.Steps.{Leaves, IsStep, Puts, SameBut, Zeroes, CanPut, CanTouch}
 use Rattle.staged_file.proofs.Positions.{none-among}
 use Rattle.staged_file.proofs.Chains.{shown_source}
@@ -61,7 +63,8 @@ pub Puts-after : {f g h : ℕ → ℕ} {low high first : ℕ} {bytes : List ℕ}
 Puts-after but puts = record { inside = puts.inside; below = λ i lt. puts.below i lt ∙ but.below i lt; above = λ i le. puts.above i le ∙ but.above i le }
 
 -- bytes of one slice put at a range and then right behind it
-pub Puts-then : (f g h : ℕ → ℕ) (first mid low high : ℕ) (bytes : List ℕ) → first ≤ low → mid ≤ high → (first < low → low ≤ mid) → Puts f g first mid first bytes → Puts g h low high first bytes → Puts f h first high first bytes
+pub Puts-then : (f g h : ℕ → ℕ) (first mid low high : ℕ) (bytes : List ℕ) → first ≤ low → mid ≤ high → (first < low → low ≤ mid) → Puts f g first mid first bytes → Puts g h low high first bytes
+    → Puts f h first high first bytes
 Puts-then f g h first mid low high bytes le more joins one two = record {
   inside = λ i a b. at i a b (cases_lt i low);
   below = λ i lt. two.below i (omega arith) ∙ one.below i lt;
@@ -132,15 +135,19 @@ module _ (f g h k : ℕ → ℕ) (source base : List ℕ) (limit block first end
       high i ge (inr n) = outside i n
 
 -- what stands in a block that is not touched is the source's
-pub untouched_byte : (chains : ChainMap (List ℕ)) (file : StagedFile) (source : List ℕ) (block : ℕ) → is_among (touched_of chains file) block ≡ false → (i : ℕ) → i / 65536 ≡ block → byte_at chains file source i ≡ source_byte file.limit source i
-untouched_byte chains file source block none i e = shown_source (entries_of chains file.chain) file.limit source i (none-among (entries_of chains file.chain) (i / 65536) (ap (is_among (touched_of chains file)) e ∙ none))
+pub untouched_byte : (chains : ChainMap (List ℕ)) (file : StagedFile) (source : List ℕ) (block : ℕ) → is_among (touched_of chains file) block ≡ false → (i : ℕ) → i / 65536 ≡ block
+    → byte_at chains file source i ≡ source_byte file.limit source i
+untouched_byte chains file source block none i e =
+    shown_source (entries_of chains file.chain) file.limit source i (none-among (entries_of chains file.chain) (i / 65536) (ap (is_among (touched_of chains file)) e ∙ none))
 
 -- bytes put out of a part of a slice are put out of the slice
 pub Puts-part : (f g : ℕ → ℕ) (low high first : ℕ) (bytes : List ℕ) → low < high → first ≤ low → high ≤ first + length bytes
-    → Puts f g low (low + length (take ((high - first) - (low - first)) (drop (low - first) bytes))) low (take ((high - first) - (low - first)) (drop (low - first) bytes)) → Puts f g low high first bytes
+    → Puts f g low (low + length (take ((high - first) - (low - first)) (drop (low - first) bytes))) low (take ((high - first) - (low - first)) (drop (low - first) bytes))
+    → Puts f g low high first bytes
 Puts-part f g low high first bytes lt le fits puts =
     let d = length-drop (low - first) bytes in
-    let len : length (take ((high - first) - (low - first)) (drop (low - first) bytes)) ≡ (high - first) - (low - first) = length-take-le ((high - first) - (low - first)) (drop (low - first) bytes) (omega arith) in
+    let len : length (take ((high - first) - (low - first)) (drop (low - first) bytes)) ≡ (high - first) - (low - first) =
+    length-take-le ((high - first) - (low - first)) (drop (low - first) bytes) (omega arith) in
     record {
       inside = λ i a b. puts.inside i a (omega arith) ∙ get_or-take ((high - first) - (low - first)) (drop (low - first) bytes) (i - low) 0 (omega arith) ∙ get_or-drop (low - first) bytes (i - low) 0
           ∙ ap (λ n. get_or bytes n 0) (let e : (low - first) + (i - low) ≡ i - first = omega arith in e);

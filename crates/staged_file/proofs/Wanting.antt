@@ -1,11 +1,12 @@
 -- The rest of each block that a READ or a WRITE wants, and the whole range.
-use Rattle.std.proofs.Common.{◌≡◌, ℕ, zero, suc, ◌+◌, ◌-◌, ◌*◌, ◌/◌, ◌<◌, ◌≤◌, max, min, Bool, true, false, not, ◌&&◌, List, ◌⊎◌, inl, inr, refl, sym, ap, subst, ◌∙◌, length, filter, nat_lt, nat_le, arith}
-use Rattle.std.proofs.lemmas.Bool.{false≢true, cases_lt, lt-ltb, le-ltb, lt-leb, le-leb, ltb-true, not-true, and_from, and_parts}
-use Rattle.staging_spec.specs.Blocks.{block_size, block_of, numbers_from, is_among, met}
-use Rattle.staging_spec.specs.Wanted.{Range, is_source, is_overwritten, wanted_by_read, wanted_by_write, span}
-use Rattle.staged_file.specs.Spans.{Spans, IsRun, IsRest}
+use Rattle.std.proofs.Common.{◌≡◌, ℕ, ◌+◌, ◌-◌, ◌*◌, ◌/◌, ◌<◌, ◌≤◌, max, min, Bool, true, false, not, ◌&&◌, List, ◌⊎◌, inl, inr, sym, ap, subst, ◌∙◌, length, nat_lt}
+use Rattle.std.proofs.Common.{nat_le, arith}
+use Rattle.std.proofs.lemmas.Bool.{false≢true, cases_lt, lt-ltb, le-leb, ltb-true, not-true, and_from, and_parts}
+use Rattle.staging_spec.specs.Blocks.{is_among, met}
+use Rattle.staging_spec.specs.Wanted.{is_source, is_overwritten, wanted_by_read, wanted_by_write}
+use Rattle.staged_file.specs.Spans.{Spans, IsRest}
 use Rattle.staged_file.proofs.BlockByBlock.{last_block, length-met, not_over}
-use Rattle.staged_file.proofs.Spans.{spans-past, spans-start, spans-ordered, span_is}
+use Rattle.staged_file.proofs.Spans.{spans-past, spans-start, span_is}
 
 module _ (touched : List ℕ) (limit : ℕ) where
   source_is : (i : ℕ) → i < limit → is_among touched (i / 65536) ≡ false → is_source touched limit i ≡ true
@@ -106,15 +107,23 @@ module _ (touched : List ℕ) (limit : ℕ) where
         at i a b = omega arith
 
     pub left-start : (low high : ℕ) → low ≡ 0 → high ≡ 0 → Spans left (first / 65536 * 65536) (first / 65536 * 65536) low high
-    left-start low high e f = subst (λ n. Spans left (first / 65536 * 65536) (first / 65536 * 65536) n high) (sym e) (subst (λ n. Spans left (first / 65536 * 65536) (first / 65536 * 65536) 0 n) (sym f) (spans-start left (first / 65536 * 65536)))
+    left-start low high e f =
+        subst (λ n. Spans left (first / 65536 * 65536) (first / 65536 * 65536) n high) (sym e)
+        (subst (λ n. Spans left (first / 65536 * 65536) (first / 65536 * 65536) 0 n) (sym f) (spans-start left (first / 65536 * 65536)))
 
     -- both rests, taken one after the other
     pub both-rests : (a b d e f g upto over : ℕ) → a ≡ 0 → b ≡ 0 → upto ≡ min limit first → over ≡ min limit ((last_block first count + 1) * 65536)
-        → (Spans left (first / 65536 * 65536) (first / 65536 * 65536) a b → IsRest (is_among touched (first / 65536)) left (first / 65536 * 65536) (first / 65536 * 65536) (first + count) (first / 65536 * 65536) upto → Spans left (first / 65536 * 65536) (first + count) d e)
-        → (Spans left (first / 65536 * 65536) (first + count) d e → IsRest (is_among touched (last_block first count)) left (first / 65536 * 65536) (first + count) ((last_block first count + 1) * 65536) (first + count) over → Spans left (first / 65536 * 65536) ((last_block first count + 1) * 65536) f g)
+        → (Spans left (first / 65536 * 65536) (first / 65536 * 65536) a b
+        → IsRest (is_among touched (first / 65536)) left (first / 65536 * 65536) (first / 65536 * 65536) (first + count) (first / 65536 * 65536) upto
+        → Spans left (first / 65536 * 65536) (first + count) d e)
+        → (Spans left (first / 65536 * 65536) (first + count) d e
+        → IsRest (is_among touched (last_block first count)) left (first / 65536 * 65536) (first + count) ((last_block first count + 1) * 65536) (first + count) over
+        → Spans left (first / 65536 * 65536) ((last_block first count + 1) * 65536) f g)
         → Spans left (first / 65536 * 65536) ((last_block first count + 1) * 65536) f g
     both-rests a b d e f g upto over a_is b_is upto_is over_is one two = two (one (left-start a b a_is b_is) (front-rest upto upto_is)) (back-rest over over_is)
 
-    pub write-whole : (low high : ℕ) → Spans left (first / 65536 * 65536) ((last_block first count + 1) * 65536) low high → wanted_by_write touched limit first count ≡ record { first = low; count = high - low }
+    pub write-whole : (low high : ℕ) → Spans left (first / 65536 * 65536) ((last_block first count + 1) * 65536) low high
+        → wanted_by_write touched limit first count ≡ record { first = low; count = high - low }
     write-whole low high spans = span_is left (first / 65536 * 65536) (length (met first count) * 65536) low high
-        (subst (λ n. Spans left (first / 65536 * 65536) n low high) (let len = length-met first count some in let e : (last_block first count + 1) * 65536 ≡ first / 65536 * 65536 + length (met first count) * 65536 = omega arith in e) spans)
+        (subst (λ n. Spans left (first / 65536 * 65536) n low high)
+        (let len = length-met first count some in let e : (last_block first count + 1) * 65536 ≡ first / 65536 * 65536 + length (met first count) * 65536 = omega arith in e) spans)

@@ -1,5 +1,5 @@
 -- What contracts see of a copy of staged content apart from its pool.
-use Rattle.std.specs.Prelude.{◌≡◌, ℕ, ◌+◌, ◌*◌, ◌/◌, ◌<◌, ◌≤◌, ◌&&◌, Bool, true, false, not, cond, List, IsTrue, filter, length, nat_lt, slice_index, slice_index_or}
+use Rattle.std.specs.Prelude.{◌≡◌, ℕ, ◌*◌, ◌/◌, ◌<◌, ◌≤◌, ◌&&◌, Bool, false, not, cond, List, IsTrue, filter, length, nat_lt, slice_index, slice_index_or}
 use Rattle.staging_spec.specs.Blocks.{numbers_from, is_among}
 use Rattle.staging_spec.specs.Wanted.{Range, span}
 use Rattle.staged_file.specs.Staged.{bytes_below}

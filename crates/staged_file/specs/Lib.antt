@@ -4,3 +4,4 @@ pub mod Sources
 pub mod Steps
 pub mod Spans
 pub mod Frozen
+pub mod Laws

@@ -1,15 +1,6 @@
--- A slice that has a part of the source, and the range of the source that is wanted.
-use Rattle.std.specs.Prelude.{◌≡◌, ℕ, ◌+◌, ◌<◌, ◌≤◌, List, length, take, drop}
+-- The range of the source that is wanted.
 use Rattle.staging_spec.specs.Wanted.{Range}
 use Rattle.staged_file.specs.declared.wanted.Wanted.{Wanted}
 
 abbrev pub range_of : Wanted → Range
 range_of wanted = record { first = wanted.first; count = wanted.count }
-
--- a slice of so many bytes, from this one of the source on, reaches over what is wanted
-abbrev pub Covers : ℕ → ℕ → Range → Type 0
-Covers first count range = 0 < range.count → (first ≤ range.first) × (range.first + range.count ≤ first + count)
-
--- a slice has the bytes of a source from a place on
-abbrev pub Holds : List ℕ → ℕ → List ℕ → Type 0
-Holds source first bytes = take (length bytes) (drop first source) ≡ bytes

@@ -1,8 +1,9 @@
 -- What contracts see of the staged content of a file: a chain of touched blocks in a pool, over a source.
-use Rattle.std.specs.Prelude.{◌≡◌, ℕ, ◌+◌, ◌*◌, ◌/◌, ◌%◌, ◌<◌, ◌≤◌, List, Option, None, Some, IsTrue, cond, length, map, nat_lt, slice_index, refl}
+use Rattle.std.specs.Prelude.{◌≡◌, ℕ, ◌*◌, ◌/◌, ◌<◌, ◌≤◌, List, Option, IsTrue, length, map, refl}
 use Rattle.std.specs.Coded.{Coded, code_by, coded×, coded_ℕ, coded_option}
 use Rattle.block_pool.specs.Chains.{Entries, ChainMap, entries_of, at, IsChain}
-use Rattle.staging_spec.specs.Blocks.{block_size, block_of, numbers_from, is_among}
+use Rattle.staging_spec.specs.Blocks.{numbers_from, is_among}
+use Rattle.staging_spec.specs.Overlays.{Overlay, byte_in}
 use Rattle.staging_spec.specs.Staging.{Staging}
 
 -- the chain of touched blocks, the lengths of the source and of the content, the limit, and how many blocks are touched
@@ -23,15 +24,6 @@ staged_code =
     (λ _. refl)
 
 -- ---- what stands at each place
--- a byte of the source below the limit; 0 behind it
-abbrev pub source_byte : ℕ → List ℕ → ℕ → ℕ
-source_byte limit source byte = cond (nat_lt byte limit) (slice_index source byte) 0
-
--- a byte of a touched block, or of the source where the block is not touched
-abbrev pub byte_in : Option (List ℕ) → ℕ → List ℕ → ℕ → ℕ
-byte_in None limit source byte = source_byte limit source byte
-byte_in (Some block) limit source byte = slice_index block (byte % 65536)
-
 -- the byte that stands at a place over a source
 abbrev pub shown_byte : Entries (List ℕ) → ℕ → List ℕ → ℕ → ℕ
 shown_byte entries limit source byte = byte_in (at entries (byte / 65536)) limit source byte
@@ -58,6 +50,10 @@ staging_of chains staged source = record {
   touched = touched_of chains staged;
   limit = staged.limit;
 }
+
+-- what its chain holds of it
+abbrev pub overlay_of : ChainMap (List ℕ) → StagedFile → Overlay
+overlay_of chains staged = record { blocks = entries_of chains staged.chain; size = staged.size; limit = staged.limit }
 
 -- ---- what holds of it
 -- The chain is the pool's; the touched blocks are counted and begin inside the content; behind its end are zeros, over

@@ -1,9 +1,8 @@
 -- What the steps of a call change and what they leave, byte by byte.
-use Rattle.std.specs.Prelude.{◌≡◌, ℕ, ◌+◌, ◌-◌, ◌*◌, ◌/◌, ◌<◌, ◌≤◌, Bool, true, false, ◌⊎◌, List, IsTrue, slice_index}
-use Rattle.block_pool.specs.Chains.{ChainMap}
+use Rattle.std.specs.Prelude.{◌≡◌, ℕ, ◌+◌, ◌-◌, ◌*◌, ◌/◌, ◌<◌, ◌≤◌, ◌⊎◌, List, IsTrue, slice_index}
 use Rattle.block_pool.specs.Pool.{Pool, Keeps}
 use Rattle.staging_spec.specs.Blocks.{is_among}
-use Rattle.staged_file.specs.Staged.{StagedFile, IsStaged, touched_of}
+use Rattle.staged_file.specs.Staged.{StagedFile, IsStaged}
 
 -- What a call leaves: every other chain; how many blocks are free or this file's, and how many there are; the length of the source.
 pub record Leaves (was : Pool) (old : StagedFile) (now : Pool) (new : StagedFile) : Type 0 where

@@ -3,7 +3,7 @@ ghost use Rattle.std.specs.Prelude.{◌≡◌, ℕ, ◌+◌, ◌*◌, ◌/◌, �
 ghost use Rattle.staging_spec.specs.Blocks.{is_among};
 ghost use Rattle.staging_spec.specs.Wanted.{wanted_by_flush};
 ghost use Rattle.staged_file.specs.Frozen.{frozen_content, frozen_wanted, Copies, Fills};
-ghost use Rattle.staged_file.specs.Sources.{Covers, Holds};
+ghost use Rattle.staging_spec.specs.Slices.{Covers, Holds};
 ghost use Rattle.staged_file.specs.Staged.{IsStaged, staging_of, touched_of, byte_at};
 ghost use Rattle.staged_file.specs.Steps.{CanRead, Reads};
 

@@ -2,6 +2,7 @@
 #![tactic(auto)]
 
 mod frozen;
+mod laws;
 mod reading;
 mod resizing;
 mod span;
@@ -13,5 +14,6 @@ mod wants;
 mod writing;
 
 pub use frozen::Frozen;
+pub use laws::chain_laws;
 pub use staged::Staged;
 pub use wanted::{NoBlocks, Wanted};

@@ -2,8 +2,9 @@
 ghost use Rattle.std.specs.Prelude.{◌≡◌, ℕ, ◌+◌, ◌-◌, ◌*◌, ◌/◌, ◌%◌, ◌<◌, ◌≤◌, max, min, List, false, length, take, drop, slice_index};
 ghost use Rattle.staging_spec.specs.Blocks.{is_among};
 ghost use Rattle.staging_spec.specs.Wanted.{wanted_by_read};
-ghost use Rattle.staged_file.specs.Sources.{Covers, Holds};
-ghost use Rattle.staged_file.specs.Staged.{IsStaged, staging_of, touched_of, byte_at, source_byte};
+ghost use Rattle.staging_spec.specs.Slices.{Covers, Holds};
+ghost use Rattle.staging_spec.specs.Overlays.{source_byte};
+ghost use Rattle.staged_file.specs.Staged.{IsStaged, staging_of, touched_of, byte_at};
 ghost use Rattle.staged_file.specs.Steps.{CanRead, Reads};
 
 use crate::staged::{BLOCK, Staged};

@@ -3,7 +3,7 @@ ghost use Rattle.std.specs.Prelude.{◌≡◌, ℕ, ◌+◌, ◌-◌, ◌*◌, �
 ghost use Rattle.staging_spec.specs.Blocks.{is_among, put_number, touch, met};
 ghost use Rattle.staging_spec.specs.Staging.{needed, written};
 ghost use Rattle.staging_spec.specs.Wanted.{wanted_by_write};
-ghost use Rattle.staged_file.specs.Sources.{Covers, Holds};
+ghost use Rattle.staging_spec.specs.Slices.{Covers, Holds};
 ghost use Rattle.staged_file.specs.Staged.{IsStaged, staging_of, touched_of, byte_at};
 ghost use Rattle.staged_file.specs.Steps.{Leaves, IsStep, Puts, SameBut, CanPut, CanTouch};
 

@@ -1,3 +1,6 @@
--- The laws of staged content.
 pub mod ContentLaws
 pub mod WantedLaws
+pub mod BlockLaws
+pub mod OverlayLaws
+pub mod StandingLaws
+pub mod CountLaws

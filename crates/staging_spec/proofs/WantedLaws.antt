@@ -1,8 +1,8 @@
 -- What is wanted of a source lies in it.
-use Rattle.std.proofs.Common.{◌≡◌, ℕ, zero, suc, ◌+◌, ◌-◌, ◌*◌, ◌<◌, ◌≤◌, Bool, true, false, cond, not, ◌&&◌, List, [], ◌∷◌, refl, sym, ap, subst, ◌∙◌, length, filter, nat_lt, arith}
+use Rattle.std.proofs.Common.{◌≡◌, ℕ, zero, suc, ◌+◌, ◌*◌, ◌<◌, ◌≤◌, Bool, true, false, cond, not, ◌&&◌, List, [], ◌∷◌, refl, subst, length, filter, nat_lt, arith}
 use Rattle.std.proofs.lemmas.Bool.{and_parts, ltb-true}
 use Rattle.staging_spec.specs.Blocks.{numbers_from, is_among, block_of, met, block_size}
-use Rattle.staging_spec.specs.Wanted.{Range, IsWithin, is_source, is_overwritten, last_of, span, wanted_by_read, wanted_by_write, wanted_by_flush}
+use Rattle.staging_spec.specs.Wanted.{IsWithin, is_source, is_overwritten, last_of, span, wanted_by_read, wanted_by_write, wanted_by_flush}
 
 -- numbers that lie below a limit and at or above a number
 abbrev AllIn : ℕ → ℕ → List ℕ → Type 0
@@ -14,7 +14,8 @@ all_in : (test : ℕ → Bool) (limit : ℕ) → ((n : ℕ) → test n ≡ true 
 all_in test limit below low first zero le = tt
 all_in test limit below low first (suc count) le = at (test first) refl (all_in test limit below low (first + 1) count (omega arith))
   where
-    at : (t : Bool) → test first ≡ t → AllIn low limit (filter test (numbers_from (first + 1) count)) → AllIn low limit (cond t (first ∷ filter test (numbers_from (first + 1) count)) (filter test (numbers_from (first + 1) count)))
+    at : (t : Bool) → test first ≡ t → AllIn low limit (filter test (numbers_from (first + 1) count))
+        → AllIn low limit (cond t (first ∷ filter test (numbers_from (first + 1) count)) (filter test (numbers_from (first + 1) count)))
     at true e more = (le, below first e, more)
     at false e more = more
 
@@ -38,7 +39,8 @@ first_least test first (suc count) n ms e = at (test first) e (first_least test 
     unlimited : (n : ℕ) → test n ≡ true → n < n + 1
     unlimited n e = omega arith
 
-    at : (t : Bool) → cond t (first ∷ filter test (numbers_from (first + 1) count)) (filter test (numbers_from (first + 1) count)) ≡ n ∷ ms → (filter test (numbers_from (first + 1) count) ≡ n ∷ ms → n ≤ last_of n ms) → n ≤ last_of n ms
+    at : (t : Bool) → cond t (first ∷ filter test (numbers_from (first + 1) count)) (filter test (numbers_from (first + 1) count)) ≡ n ∷ ms
+        → (filter test (numbers_from (first + 1) count) ≡ n ∷ ms → n ≤ last_of n ms) → n ≤ last_of n ms
     at true e more =
         let head : first ≡ n = cc in
         let tail : filter test (numbers_from (first + 1) count) ≡ ms = cc in

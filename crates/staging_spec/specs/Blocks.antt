@@ -1,5 +1,5 @@
 -- Blocks of a content, and which of them a range meets.
-use Rattle.std.specs.Prelude.{ℕ, zero, suc, ◌+◌, ◌-◌, ◌*◌, ◌/◌, ◌==◌, Bool, not, List, [], ◌∷◌, filter, nat_lt, cond}
+use Rattle.std.specs.Prelude.{ℕ, zero, suc, ◌+◌, ◌-◌, ◌*◌, ◌/◌, ◌<◌, ◌==◌, Bool, not, List, [], ◌∷◌, filter, nat_lt, cond}
 use Rattle.std.specs.List.{list_any}
 
 -- the bytes of a block
@@ -41,3 +41,12 @@ touch touched (block ∷ blocks) = touch (put_number touched block) blocks
 -- the touched blocks but those that begin at or after this length
 abbrev pub untouch : List ℕ → ℕ → List ℕ
 untouch touched size = filter (λ block. nat_lt (block * block_size) size) touched
+
+-- numbers rise along a list
+abbrev pub AllOver : ℕ → List ℕ → Type 0
+AllOver low [] = Unit {0}
+AllOver low (n ∷ ns) = (low < n) × AllOver low ns
+
+abbrev pub Rise : List ℕ → Type 0
+Rise [] = Unit {0}
+Rise (n ∷ ns) = AllOver n ns × Rise ns

@@ -3,3 +3,6 @@ pub mod Content
 pub mod Blocks
 pub mod Staging
 pub mod Wanted
+pub mod Slices
+pub mod Overlays
+pub mod Laws

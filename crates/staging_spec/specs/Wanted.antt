@@ -1,5 +1,5 @@
 -- Which bytes of the source a request on staged content wants.
-use Rattle.std.specs.Prelude.{ℕ, ◌+◌, ◌-◌, ◌*◌, ◌<◌, ◌≤◌, ◌&&◌, Bool, not, List, [], ◌∷◌, filter, length, nat_lt, nat_le}
+use Rattle.std.specs.Prelude.{ℕ, ◌+◌, ◌-◌, ◌*◌, ◌≤◌, ◌&&◌, Bool, not, List, [], ◌∷◌, filter, length, nat_lt, nat_le}
 use Rattle.staging_spec.specs.Blocks.{block_size, block_of, numbers_from, is_among, met}
 
 -- whether a byte is still the source's: it lies below the limit and in no touched block

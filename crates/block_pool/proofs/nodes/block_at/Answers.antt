@@ -9,13 +9,15 @@ pub returns-then-last-position : goal.returns-then-last-position
 returns-then-last-position c =
     let nodes = c.args.nodes.now.items in
     sym (none_behind nodes c.args.head c.requires c.args.position
-    (subst (λ (n : Node). (node_at nodes n.last).position < c.args.position) c.node_of-first.ensures (subst (λ (n : Node). n.position < c.args.position) c.node_of-last.ensures c.if-last-position.true)))
+    (subst (λ (n : Node). (node_at nodes n.last).position < c.args.position) c.node_of-first.ensures
+    (subst (λ (n : Node). n.position < c.args.position) c.node_of-last.ensures c.if-last-position.true)))
 
 pub returns-then-last-position-2 : goal.returns-then-last-position-2
 returns-then-last-position-2 c =
     let nodes = c.args.nodes.now.items in
     sym (found_last nodes c.args.head c.requires c.args.position
-    (subst (λ (n : Node). (node_at nodes n.last).position ≡ c.args.position) c.node_of-first.ensures (subst (λ (n : Node). n.position ≡ c.args.position) c.node_of-last.ensures c.if-last-position-2.true))
+    (subst (λ (n : Node). (node_at nodes n.last).position ≡ c.args.position) c.node_of-first.ensures
+    (subst (λ (n : Node). n.position ≡ c.args.position) c.node_of-last.ensures c.if-last-position-2.true))
     ∙ ap (λ (n : Node). Some n.last) (sym c.node_of-first.ensures))
 
 pub loop-steps-preserved : goal.loop-steps-preserved

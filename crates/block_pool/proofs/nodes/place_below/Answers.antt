@@ -8,7 +8,8 @@ pub node_of-requires-in-loop-kept : goal.node_of-requires-in-loop-kept
 node_of-requires-in-loop-kept c =
     let nodes = c.args.nodes.now.items in
     let few : c.loop-kept.kept < (node_at nodes c.args.head).count = subst (λ (n : Node). c.loop-kept.kept < n.count) c.node_of-first.ensures c.loop-kept-test.true in
-    let lt : (node_at nodes c.loop-kept.block).next < length nodes = next_within nodes c.args.head c.requires.chain c.loop-kept.kept c.loop-kept.block c.loop-kept.auto.kept few c.loop-kept.invariant.0 in
+    let lt : (node_at nodes c.loop-kept.block).next < length nodes =
+    next_within nodes c.args.head c.requires.chain c.loop-kept.kept c.loop-kept.block c.loop-kept.auto.kept few c.loop-kept.invariant.0 in
     let same : c.node_of-next.result.next ≡ (node_at nodes c.loop-kept.block).next = ap (λ (n : Node). n.next) c.node_of-next.ensures in
     let len = c.args.nodes.now.ok in
     omega arith

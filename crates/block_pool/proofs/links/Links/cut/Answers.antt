@@ -28,7 +28,9 @@ cut_behind-requires-clause-last c =
 
 pub overflow_add-self : goal.overflow_add-self
 overflow_add-self c =
-    let cut = IsCut-whole c.self.invariant c.args.self.now c.self.view_is c.args.head c.args.position c.requires (subst (λ (n : Node). c.args.position ≤ n.position) c.node_of-first.ensures c.if-position-first.true) in
+    let cut =
+    IsCut-whole c.self.invariant c.args.self.now c.self.view_is c.args.head c.args.position c.requires
+    (subst (λ (n : Node). c.args.position ≤ n.position) c.node_of-first.ensures c.if-position-first.true) in
     let fits = fits_cut c.self.invariant c.args.self.now c.self.view_is c.args.head c.args.position c.args.head 0 c.requires cut in
     let count = ap (λ (n : Node). n.count) c.node_of-first.ensures in
     let len = c.self.inside.nodes.ok in
@@ -41,26 +43,37 @@ freed_is freed count all e = omega arith
 
 pub invariant_of-self : goal.invariant_of-self
 invariant_of-self c =
-    let cut = IsCut-whole c.self.invariant c.args.self.now c.self.view_is c.args.head c.args.position c.requires (subst (λ (n : Node). c.args.position ≤ n.position) c.node_of-first.ensures c.if-position-first.true) in
+    let cut =
+    IsCut-whole c.self.invariant c.args.self.now c.self.view_is c.args.head c.args.position c.requires
+    (subst (λ (n : Node). c.args.position ≤ n.position) c.node_of-first.ensures c.if-position-first.true) in
     let count = ap (λ (n : Node). n.count) c.node_of-first.ensures in
-    subst (λ n. IsHeld c.cut_behind.new.nodes.items c.args.head n c.self.inside.blocks (vec_capacity c.cut_behind.new.nodes)) (freed_is c.self.inside.freed c.node_of-first.result.count (node_at c.self.inside.nodes.items c.args.head).count count)
-    (held_cut c.self.invariant c.args.self.now c.self.view_is c.args.head c.args.position c.args.head 0 c.requires cut c.cut_behind.new.nodes.items _ c.cut_behind.ensures.nodes c.cut_behind.ensures.room)
+    subst (λ n. IsHeld c.cut_behind.new.nodes.items c.args.head n c.self.inside.blocks (vec_capacity c.cut_behind.new.nodes))
+    (freed_is c.self.inside.freed c.node_of-first.result.count (node_at c.self.inside.nodes.items c.args.head).count count)
+    (held_cut c.self.invariant c.args.self.now c.self.view_is c.args.head c.args.position c.args.head 0 c.requires cut c.cut_behind.new.nodes.items _ c.cut_behind.ensures.nodes
+    c.cut_behind.ensures.room)
 
 pub returns-then-position-first-clause-chains : goal.returns-then-position-first-clause-chains
 returns-then-position-first-clause-chains c =
-    let cut = IsCut-whole c.self.invariant c.args.self.now c.self.view_is c.args.head c.args.position c.requires (subst (λ (n : Node). c.args.position ≤ n.position) c.node_of-first.ensures c.if-position-first.true) in
+    let cut =
+    IsCut-whole c.self.invariant c.args.self.now c.self.view_is c.args.head c.args.position c.requires
+    (subst (λ (n : Node). c.args.position ≤ n.position) c.node_of-first.ensures c.if-position-first.true) in
     (gone_cut c.self.invariant c.args.self.now c.self.view_is c.args.head c.args.position c.args.head 0 c.requires cut c.cut_behind.new.nodes.items c.cut_behind.ensures.nodes (λ i. 0)).0
 
 pub returns-then-position-first-clause-head : goal.returns-then-position-first-clause-head
 returns-then-position-first-clause-head c =
-    let cut = IsCut-whole c.self.invariant c.args.self.now c.self.view_is c.args.head c.args.position c.requires (subst (λ (n : Node). c.args.position ≤ n.position) c.node_of-first.ensures c.if-position-first.true) in
+    let cut =
+    IsCut-whole c.self.invariant c.args.self.now c.self.view_is c.args.head c.args.position c.requires
+    (subst (λ (n : Node). c.args.position ≤ n.position) c.node_of-first.ensures c.if-position-first.true) in
     (gone_cut c.self.invariant c.args.self.now c.self.view_is c.args.head c.args.position c.args.head 0 c.requires cut c.cut_behind.new.nodes.items c.cut_behind.ensures.nodes (λ i. 0)).1
 
 pub returns-then-position-first-clause-free : goal.returns-then-position-first-clause-free
 returns-then-position-first-clause-free c =
-    let cut = IsCut-whole c.self.invariant c.args.self.now c.self.view_is c.args.head c.args.position c.requires (subst (λ (n : Node). c.args.position ≤ n.position) c.node_of-first.ensures c.if-position-first.true) in
+    let cut =
+    IsCut-whole c.self.invariant c.args.self.now c.self.view_is c.args.head c.args.position c.requires
+    (subst (λ (n : Node). c.args.position ≤ n.position) c.node_of-first.ensures c.if-position-first.true) in
     let count = ap (λ (n : Node). n.count) c.node_of-first.ensures in
-    subst (λ n. free_of (link_state c.cut_behind.new.nodes.items c.args.head n c.self.inside.blocks) + length (below (entries_of c.args.self.now.chains (Some c.args.head)) c.args.position) ≡ free_of c.args.self.now + length (entries_of c.args.self.now.chains (Some c.args.head)))
+    subst (λ n. free_of (link_state c.cut_behind.new.nodes.items c.args.head n c.self.inside.blocks) + length (below (entries_of c.args.self.now.chains (Some c.args.head)) c.args.position)
+    ≡ free_of c.args.self.now + length (entries_of c.args.self.now.chains (Some c.args.head)))
     (freed_is c.self.inside.freed c.node_of-first.result.count (node_at c.self.inside.nodes.items c.args.head).count count)
     (free_cut c.self.invariant c.args.self.now c.self.view_is c.args.head c.args.position c.args.head 0 c.requires cut c.cut_behind.new.nodes.items c.cut_behind.ensures.nodes)
 
@@ -86,7 +99,9 @@ returns-then-place-first-clause-free c =
 pub node_of-tail-requires : goal.node_of-tail-requires
 node_of-tail-requires c =
     let w = whole c.self.invariant c.args.self.now c.self.view_is c.args.head c.requires in
-    let lt = place_within c.self.inside.nodes.items c.args.head w c.place_below-place.result.kept c.place_below-place.result.block c.place_below-place.ensures.some c.place_below-place.ensures.few c.place_below-place.ensures.at in
+    let lt =
+    place_within c.self.inside.nodes.items c.args.head w c.place_below-place.result.kept c.place_below-place.result.block c.place_below-place.ensures.some c.place_below-place.ensures.few
+    c.place_below-place.ensures.at in
     let len = c.self.inside.nodes.ok in
     omega arith
 
@@ -99,7 +114,9 @@ cut_behind-requires-2-clause-last c =
 pub overflow_add-self-2 : goal.overflow_add-self-2
 overflow_add-self-2 c =
     let count = ap (λ (n : Node). n.count) c.node_of-first.ensures in
-    let cut = IsCut-place c.self.invariant c.args.self.now c.self.view_is c.args.head c.args.position c.place_below-place.result.block c.place_below-place.result.kept c.place_below-place.ensures (λ e. c.if-place-first.false (e ∙ sym count)) in
+    let cut =
+    IsCut-place c.self.invariant c.args.self.now c.self.view_is c.args.head c.args.position c.place_below-place.result.block c.place_below-place.result.kept c.place_below-place.ensures
+    (λ e. c.if-place-first.false (e ∙ sym count)) in
     let fits = fits_cut c.self.invariant c.args.self.now c.self.view_is c.args.head c.args.position c.place_below-place.result.block c.place_below-place.result.kept c.requires cut in
     let len = c.self.inside.nodes.ok in
     let small = c.self.inside.nodes.small in
@@ -109,11 +126,18 @@ pub invariant_of-self-2 : goal.invariant_of-self-2
 invariant_of-self-2 c =
     let count = ap (λ (n : Node). n.count) c.node_of-first.ensures in
     let w = whole c.self.invariant c.args.self.now c.self.view_is c.args.head c.requires in
-    let tail = ap (λ (n : Node). n.next) c.node_of-tail.ensures ∙ next_is c.self.inside.nodes.items c.args.head w c.place_below-place.result.kept c.place_below-place.result.block c.place_below-place.ensures.some c.place_below-place.ensures.at in
-    let cut = IsCut-place c.self.invariant c.args.self.now c.self.view_is c.args.head c.args.position c.place_below-place.result.block c.place_below-place.result.kept c.place_below-place.ensures (λ e. c.if-place-first.false (e ∙ sym count)) in
-    subst (λ n. IsHeld c.cut_behind-2.new.nodes.items c.node_of-tail.result.next (c.self.inside.freed + (n - c.place_below-place.result.kept)) c.self.inside.blocks (vec_capacity c.cut_behind-2.new.nodes)) (sym count)
-    (subst (λ n. IsHeld c.cut_behind-2.new.nodes.items n (c.self.inside.freed + ((node_at c.self.inside.nodes.items c.args.head).count - c.place_below-place.result.kept)) c.self.inside.blocks (vec_capacity c.cut_behind-2.new.nodes)) (sym tail)
-    (held_cut c.self.invariant c.args.self.now c.self.view_is c.args.head c.args.position c.place_below-place.result.block c.place_below-place.result.kept c.requires cut c.cut_behind-2.new.nodes.items _ c.cut_behind-2.ensures.nodes c.cut_behind-2.ensures.room))
+    let tail =
+    ap (λ (n : Node). n.next) c.node_of-tail.ensures
+    ∙ next_is c.self.inside.nodes.items c.args.head w c.place_below-place.result.kept c.place_below-place.result.block c.place_below-place.ensures.some c.place_below-place.ensures.at in
+    let cut =
+    IsCut-place c.self.invariant c.args.self.now c.self.view_is c.args.head c.args.position c.place_below-place.result.block c.place_below-place.result.kept c.place_below-place.ensures
+    (λ e. c.if-place-first.false (e ∙ sym count)) in
+    subst (λ n. IsHeld c.cut_behind-2.new.nodes.items c.node_of-tail.result.next (c.self.inside.freed + (n - c.place_below-place.result.kept)) c.self.inside.blocks
+    (vec_capacity c.cut_behind-2.new.nodes)) (sym count)
+    (subst (λ n. IsHeld c.cut_behind-2.new.nodes.items n (c.self.inside.freed + ((node_at c.self.inside.nodes.items c.args.head).count - c.place_below-place.result.kept)) c.self.inside.blocks
+    (vec_capacity c.cut_behind-2.new.nodes)) (sym tail)
+    (held_cut c.self.invariant c.args.self.now c.self.view_is c.args.head c.args.position c.place_below-place.result.block c.place_below-place.result.kept c.requires cut c.cut_behind-2.new.nodes.items
+    _ c.cut_behind-2.ensures.nodes c.cut_behind-2.ensures.room))
 
 -- the place keeps at least one block
 one_more : (n : ℕ) → 1 ≤ n → n ≡ suc (n - 1)
@@ -122,34 +146,51 @@ one_more n h = omega arith
 pub returns-clause-chains : goal.returns-clause-chains
 returns-clause-chains c =
     let count = ap (λ (n : Node). n.count) c.node_of-first.ensures in
-    let cut = IsCut-place c.self.invariant c.args.self.now c.self.view_is c.args.head c.args.position c.place_below-place.result.block c.place_below-place.result.kept c.place_below-place.ensures (λ e. c.if-place-first.false (e ∙ sym count)) in
-    (some_cut c.self.invariant c.args.self.now c.self.view_is c.args.head c.args.position c.place_below-place.result.block c.place_below-place.result.kept c.requires cut c.cut_behind-2.new.nodes.items (c.place_below-place.result.kept - 1)
+    let cut =
+    IsCut-place c.self.invariant c.args.self.now c.self.view_is c.args.head c.args.position c.place_below-place.result.block c.place_below-place.result.kept c.place_below-place.ensures
+    (λ e. c.if-place-first.false (e ∙ sym count)) in
+    (some_cut c.self.invariant c.args.self.now c.self.view_is c.args.head c.args.position c.place_below-place.result.block c.place_below-place.result.kept c.requires cut c.cut_behind-2.new.nodes.items
+    (c.place_below-place.result.kept - 1)
     c.cut_behind-2.ensures.nodes (one_more c.place_below-place.result.kept c.place_below-place.ensures.some)).0
 
 pub returns-clause-head : goal.returns-clause-head
 returns-clause-head c =
     let count = ap (λ (n : Node). n.count) c.node_of-first.ensures in
-    let cut = IsCut-place c.self.invariant c.args.self.now c.self.view_is c.args.head c.args.position c.place_below-place.result.block c.place_below-place.result.kept c.place_below-place.ensures (λ e. c.if-place-first.false (e ∙ sym count)) in
-    (some_cut c.self.invariant c.args.self.now c.self.view_is c.args.head c.args.position c.place_below-place.result.block c.place_below-place.result.kept c.requires cut c.cut_behind-2.new.nodes.items (c.place_below-place.result.kept - 1)
+    let cut =
+    IsCut-place c.self.invariant c.args.self.now c.self.view_is c.args.head c.args.position c.place_below-place.result.block c.place_below-place.result.kept c.place_below-place.ensures
+    (λ e. c.if-place-first.false (e ∙ sym count)) in
+    (some_cut c.self.invariant c.args.self.now c.self.view_is c.args.head c.args.position c.place_below-place.result.block c.place_below-place.result.kept c.requires cut c.cut_behind-2.new.nodes.items
+    (c.place_below-place.result.kept - 1)
     c.cut_behind-2.ensures.nodes (one_more c.place_below-place.result.kept c.place_below-place.ensures.some)).1
 
 pub returns-clause-free : goal.returns-clause-free
 returns-clause-free c =
     let count = ap (λ (n : Node). n.count) c.node_of-first.ensures in
     let w = whole c.self.invariant c.args.self.now c.self.view_is c.args.head c.requires in
-    let tail = ap (λ (n : Node). n.next) c.node_of-tail.ensures ∙ next_is c.self.inside.nodes.items c.args.head w c.place_below-place.result.kept c.place_below-place.result.block c.place_below-place.ensures.some c.place_below-place.ensures.at in
-    let cut = IsCut-place c.self.invariant c.args.self.now c.self.view_is c.args.head c.args.position c.place_below-place.result.block c.place_below-place.result.kept c.place_below-place.ensures (λ e. c.if-place-first.false (e ∙ sym count)) in
+    let tail =
+    ap (λ (n : Node). n.next) c.node_of-tail.ensures
+    ∙ next_is c.self.inside.nodes.items c.args.head w c.place_below-place.result.kept c.place_below-place.result.block c.place_below-place.ensures.some c.place_below-place.ensures.at in
+    let cut =
+    IsCut-place c.self.invariant c.args.self.now c.self.view_is c.args.head c.args.position c.place_below-place.result.block c.place_below-place.result.kept c.place_below-place.ensures
+    (λ e. c.if-place-first.false (e ∙ sym count)) in
     let left = length (below (entries_of c.args.self.now.chains (Some c.args.head)) c.args.position) in
     let was = free_of c.args.self.now + length (entries_of c.args.self.now.chains (Some c.args.head)) in
-    subst (λ n. free_of (link_state c.cut_behind-2.new.nodes.items c.node_of-tail.result.next (c.self.inside.freed + (n - c.place_below-place.result.kept)) c.self.inside.blocks) + left ≡ was) (sym count)
-    (subst (λ n. free_of (link_state c.cut_behind-2.new.nodes.items n (c.self.inside.freed + ((node_at c.self.inside.nodes.items c.args.head).count - c.place_below-place.result.kept)) c.self.inside.blocks) + left ≡ was) (sym tail)
-    (free_cut c.self.invariant c.args.self.now c.self.view_is c.args.head c.args.position c.place_below-place.result.block c.place_below-place.result.kept c.requires cut c.cut_behind-2.new.nodes.items c.cut_behind-2.ensures.nodes))
+    subst (λ n. free_of (link_state c.cut_behind-2.new.nodes.items c.node_of-tail.result.next (c.self.inside.freed + (n - c.place_below-place.result.kept)) c.self.inside.blocks) + left ≡ was)
+    (sym count)
+    (subst (λ n. free_of
+    (link_state c.cut_behind-2.new.nodes.items n (c.self.inside.freed + ((node_at c.self.inside.nodes.items c.args.head).count - c.place_below-place.result.kept)) c.self.inside.blocks) + left
+    ≡ was) (sym tail)
+    (free_cut c.self.invariant c.args.self.now c.self.view_is c.args.head c.args.position c.place_below-place.result.block c.place_below-place.result.kept c.requires cut c.cut_behind-2.new.nodes.items
+    c.cut_behind-2.ensures.nodes))
 
 pub returns-then-position-first-clause-valid : goal.returns-then-position-first-clause-valid
-returns-then-position-first-clause-valid c = subst IsValid c.self.view_is (IsValid-held c.self.inside.nodes.items c.self.inside.first_freed c.self.inside.freed c.self.inside.blocks (vec_capacity c.self.inside.nodes) c.self.invariant)
+returns-then-position-first-clause-valid c =
+    subst IsValid c.self.view_is (IsValid-held c.self.inside.nodes.items c.self.inside.first_freed c.self.inside.freed c.self.inside.blocks (vec_capacity c.self.inside.nodes) c.self.invariant)
 
 pub returns-then-place-first-clause-valid : goal.returns-then-place-first-clause-valid
-returns-then-place-first-clause-valid c = subst IsValid c.self.view_is (IsValid-held c.self.inside.nodes.items c.self.inside.first_freed c.self.inside.freed c.self.inside.blocks (vec_capacity c.self.inside.nodes) c.self.invariant)
+returns-then-place-first-clause-valid c =
+    subst IsValid c.self.view_is (IsValid-held c.self.inside.nodes.items c.self.inside.first_freed c.self.inside.freed c.self.inside.blocks (vec_capacity c.self.inside.nodes) c.self.invariant)
 
 pub returns-clause-valid : goal.returns-clause-valid
-returns-clause-valid c = subst IsValid c.self.view_is (IsValid-held c.self.inside.nodes.items c.self.inside.first_freed c.self.inside.freed c.self.inside.blocks (vec_capacity c.self.inside.nodes) c.self.invariant)
+returns-clause-valid c =
+    subst IsValid c.self.view_is (IsValid-held c.self.inside.nodes.items c.self.inside.first_freed c.self.inside.freed c.self.inside.blocks (vec_capacity c.self.inside.nodes) c.self.invariant)

@@ -8,7 +8,8 @@ use Rattle.block_pool.proofs.links.Links.link.Goals as goal
 
 pub invariant_of-self : goal.invariant_of-self
 invariant_of-self c =
-    held_after c.self.invariant c.args.self.now c.self.view_is (begun c.self.inside.nodes.items c.args.block c.args.position) c.begin.new.nodes.items c.args.block c.args.block c.args.block c.args.position _
+    held_after c.self.invariant c.args.self.now c.self.view_is (begun c.self.inside.nodes.items c.args.block c.args.position) c.begin.new.nodes.items c.args.block c.args.block
+    c.args.block c.args.position _
     c.requires.block (relinks_begun c.self.invariant c.args.self.now c.self.view_is c.args.block c.args.position c.requires.block) c.begin.ensures.nodes c.begin.ensures.room
 
 pub returns-in_default-clause-links : goal.returns-in_default-clause-links
@@ -17,7 +18,9 @@ returns-in_default-clause-links c =
 
 pub node_of-requires : goal.node_of-requires
 node_of-requires c =
-    let lt = head_within c.self.inside.nodes.items c.in-Some.head (whole c.self.invariant c.args.self.now c.self.view_is c.in-Some.head (subst (λ q. IsChain c.args.self.now.chains q) c.in-Some.is c.requires.chain)) in
+    let lt =
+    head_within c.self.inside.nodes.items c.in-Some.head
+    (whole c.self.invariant c.args.self.now c.self.view_is c.in-Some.head (subst (λ q. IsChain c.args.self.now.chains q) c.in-Some.is c.requires.chain)) in
     let len = c.self.inside.nodes.ok in
     omega arith
 
@@ -30,17 +33,21 @@ put_before-requires-clause-count c =
 
 pub invariant_of-self-then-position-node_of : goal.invariant_of-self-then-position-node_of
 invariant_of-self-then-position-node_of c =
-    held_after c.self.invariant c.args.self.now c.self.view_is (put_before c.self.inside.nodes.items c.in-Some.head c.args.block c.args.position) c.put_before.new.nodes.items c.in-Some.head c.args.block c.args.block c.args.position _
+    held_after c.self.invariant c.args.self.now c.self.view_is (put_before c.self.inside.nodes.items c.in-Some.head c.args.block c.args.position) c.put_before.new.nodes.items c.in-Some.head
+    c.args.block c.args.block c.args.position _
     c.requires.block
-    (relinks_before c.self.invariant c.args.self.now c.self.view_is c.in-Some.head c.args.block c.args.position (subst (λ q. IsChain c.args.self.now.chains q) c.in-Some.is c.requires.chain) c.requires.block
+    (relinks_before c.self.invariant c.args.self.now c.self.view_is c.in-Some.head c.args.block c.args.position
+    (subst (λ q. IsChain c.args.self.now.chains q) c.in-Some.is c.requires.chain) c.requires.block
     (subst (λ (n : Node). c.args.position < n.position) c.node_of.ensures c.if-position-node_of.true))
     c.put_before.ensures.nodes c.put_before.ensures.room
 
 pub returns-then-position-node_of-clause-links : goal.returns-then-position-node_of-clause-links
 returns-then-position-node_of-clause-links c =
-    shows_after c.self.invariant c.args.self.now c.self.view_is (put_before c.self.inside.nodes.items c.in-Some.head c.args.block c.args.position) c.put_before.new.nodes.items c.args.head c.in-Some.head c.args.block c.args.block c.args.position
+    shows_after c.self.invariant c.args.self.now c.self.view_is (put_before c.self.inside.nodes.items c.in-Some.head c.args.block c.args.position) c.put_before.new.nodes.items c.args.head
+    c.in-Some.head c.args.block c.args.block c.args.position
     c.in-Some.is c.requires.block
-    (relinks_before c.self.invariant c.args.self.now c.self.view_is c.in-Some.head c.args.block c.args.position (subst (λ q. IsChain c.args.self.now.chains q) c.in-Some.is c.requires.chain) c.requires.block
+    (relinks_before c.self.invariant c.args.self.now c.self.view_is c.in-Some.head c.args.block c.args.position
+    (subst (λ q. IsChain c.args.self.now.chains q) c.in-Some.is c.requires.chain) c.requires.block
     (subst (λ (n : Node). c.args.position < n.position) c.node_of.ensures c.if-position-node_of.true))
     c.put_before.ensures.nodes
 
@@ -57,7 +64,9 @@ place_below-place-requires-clause-first c =
 pub put_behind-requires-clause-place : goal.put_behind-requires-clause-place
 put_behind-requires-clause-place c =
     let w = whole c.self.invariant c.args.self.now c.self.view_is c.in-Some.head (subst (λ q. IsChain c.args.self.now.chains q) c.in-Some.is c.requires.chain) in
-    let lt = place_within c.self.inside.nodes.items c.in-Some.head w c.place_below-place.result.kept c.place_below-place.result.block c.place_below-place.ensures.some c.place_below-place.ensures.few c.place_below-place.ensures.at in
+    let lt =
+    place_within c.self.inside.nodes.items c.in-Some.head w c.place_below-place.result.kept c.place_below-place.result.block c.place_below-place.ensures.some c.place_below-place.ensures.few
+    c.place_below-place.ensures.at in
     let len = c.self.inside.nodes.ok in
     omega arith
 
@@ -70,16 +79,20 @@ put_behind-requires-clause-count c =
 
 pub invariant_of-self-2 : goal.invariant_of-self-2
 invariant_of-self-2 c =
-    held_after c.self.invariant c.args.self.now c.self.view_is (put_behind c.self.inside.nodes.items c.in-Some.head c.place_below-place.result.block c.args.block c.args.position) c.put_behind.new.nodes.items
+    held_after c.self.invariant c.args.self.now c.self.view_is (put_behind c.self.inside.nodes.items c.in-Some.head c.place_below-place.result.block c.args.block c.args.position)
+    c.put_behind.new.nodes.items
     c.in-Some.head c.in-Some.head c.args.block c.args.position _ c.requires.block
-    (relinks_place c.self.invariant c.args.self.now c.self.view_is c.in-Some.head c.args.block c.args.position c.place_below-place.result.block c.place_below-place.result.kept c.requires.block c.place_below-place.ensures
+    (relinks_place c.self.invariant c.args.self.now c.self.view_is c.in-Some.head c.args.block c.args.position c.place_below-place.result.block c.place_below-place.result.kept c.requires.block
+    c.place_below-place.ensures
     (subst (λ q. at (entries_of c.args.self.now.chains q) c.args.position ≡ None) c.in-Some.is c.requires.absent))
     c.put_behind.ensures.nodes c.put_behind.ensures.room
 
 pub returns-clause-links : goal.returns-clause-links
 returns-clause-links c =
-    shows_after c.self.invariant c.args.self.now c.self.view_is (put_behind c.self.inside.nodes.items c.in-Some.head c.place_below-place.result.block c.args.block c.args.position) c.put_behind.new.nodes.items
+    shows_after c.self.invariant c.args.self.now c.self.view_is (put_behind c.self.inside.nodes.items c.in-Some.head c.place_below-place.result.block c.args.block c.args.position)
+    c.put_behind.new.nodes.items
     c.args.head c.in-Some.head c.in-Some.head c.args.block c.args.position c.in-Some.is c.requires.block
-    (relinks_place c.self.invariant c.args.self.now c.self.view_is c.in-Some.head c.args.block c.args.position c.place_below-place.result.block c.place_below-place.result.kept c.requires.block c.place_below-place.ensures
+    (relinks_place c.self.invariant c.args.self.now c.self.view_is c.in-Some.head c.args.block c.args.position c.place_below-place.result.block c.place_below-place.result.kept c.requires.block
+    c.place_below-place.ensures
     (subst (λ q. at (entries_of c.args.self.now.chains q) c.args.position ≡ None) c.in-Some.is c.requires.absent))
     c.put_behind.ensures.nodes

@@ -4,7 +4,9 @@ use Rattle.block_pool.proofs.PoolSteps.{chain_is, some_same}
 use Rattle.block_pool.proofs.pool.BlockPool.holds.Goals as goal
 
 pub find-requires : goal.find-requires
-find-requires c = chain_is c.self.inside.links c.self.inside.region c.self.invariant c.args.self.now c.self.view_is (Some c.in-Some.head) (subst (IsChain c.args.self.now.chains) (sym c.head.ensures ∙ c.in-Some.is) c.requires)
+find-requires c =
+    chain_is c.self.inside.links c.self.inside.region c.self.invariant c.args.self.now c.self.view_is (Some c.in-Some.head)
+    (subst (IsChain c.args.self.now.chains) (sym c.head.ensures ∙ c.in-Some.is) c.requires)
 
 pub returns : goal.returns
 returns c =

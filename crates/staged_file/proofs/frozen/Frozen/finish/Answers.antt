@@ -1,6 +1,6 @@
-use Rattle.std.proofs.Common.{◌≡◌, ◌/◌, ◌++◌, false, length, take, drop, get_or, ap, sym, subst, ◌∙◌, arith, take_at}
+use Rattle.std.proofs.Common.{◌≡◌, ◌/◌, false, length, drop, get_or, ap, sym, subst, ◌∙◌, arith, take_at}
 use Rattle.staged_file.specs.Frozen.{frozen_content, frozen_wanted}
-use Rattle.staged_file.specs.Sources.{Covers}
+use Rattle.staging_spec.specs.Slices.{Covers}
 use Rattle.staged_file.proofs.Copies.{lacked, filled-content}
 use Rattle.staged_file.specs.contracts.frozen.Frozen.{the_view}
 use Rattle.staged_file.proofs.frozen.Frozen.finish.Goals as goal

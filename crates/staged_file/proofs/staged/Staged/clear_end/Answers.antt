@@ -1,7 +1,4 @@
-use Rattle.std.proofs.Common.{◌≡◌, ◌+◌, ◌*◌, ◌/◌, ◌%◌, ◌<◌, ◌≤◌, IsTrue, true, false, refl, sym, ap, ◌∙◌, arith}
-use Rattle.std.proofs.lemmas.Bool.{false≢true}
-use Rattle.staging_spec.specs.Blocks.{is_among}
-use Rattle.staged_file.specs.Staged.{touched_of}
+use Rattle.std.proofs.Common.{◌/◌, arith}
 use Rattle.staged_file.proofs.staged.Staged.clear_end.Goals as goal
 
 pub returns-clause-kept : goal.returns-clause-kept

@@ -1,4 +1,4 @@
-use Rattle.std.proofs.Common.{◌≡◌, ◌-◌, ◌/◌, ◌%◌, is_some, IsSome, sym, ap, subst, ◌∙◌}
+use Rattle.std.proofs.Common.{◌≡◌, ◌-◌, ◌/◌, ◌%◌, is_some, sym, ap, subst, ◌∙◌}
 use Rattle.block_pool.specs.Chains.{at, entries_of}
 use Rattle.block_pool.specs.Pool.{Keeps, write_block}
 use Rattle.staging_spec.specs.Content.{zeros}
@@ -18,7 +18,8 @@ cleared c = record {
   staged = c.requires.staged;
   valid = c.clear_from.ensures.valid;
   there = c.requires.there;
-  is = subst (λ h. c.clear_from.new.self ≡ write_block c.args.pool.now h (c.args.low / 65536) (c.args.low % 65536) (zeros (65536 - c.args.low % 65536))) (ap (λ v. v.chain) c.self.view_is) c.clear_from.ensures.ok;
+  is = subst (λ h. c.clear_from.new.self ≡ write_block c.args.pool.now h (c.args.low / 65536) (c.args.low % 65536) (zeros (65536 - c.args.low % 65536))) (ap (λ v. v.chain) c.self.view_is)
+      c.clear_from.ensures.ok;
   kept = subst (λ h. Keeps c.args.pool.now.chains c.clear_from.new.self.chains h c.clear_from.new.chain) (ap (λ v. v.chain) c.self.view_is) c.clear_from.ensures.kept;
   same = (λ i. record { chain = c.clear_from.ensures.head i; base = c.self.inside.base; size = c.self.inside.len; limit = c.self.inside.limit; touched = c.self.inside.touched }) ∙ c.self.view_is;
 }

@@ -1,4 +1,4 @@
-use Rattle.std.proofs.Common.{◌≡◌, ℕ, ◌+◌, ◌*◌, [], max, min, refl, subst, ap, ◌∙◌, length, arith}
+use Rattle.std.proofs.Common.{◌≡◌, ◌+◌, ◌*◌, max, min, refl, subst, length, arith}
 use Rattle.staged_file.specs.Staged.{byte_at}
 use Rattle.staged_file.specs.Steps.{Reads}
 use Rattle.staged_file.proofs.staged.Staged.copy_block.Goals as goal

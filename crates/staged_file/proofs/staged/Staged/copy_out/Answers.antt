@@ -1,4 +1,4 @@
-use Rattle.std.proofs.Common.{◌≡◌, ◌/◌, ◌%◌, is_some, IsSome, sym, ap, subst, ◌∙◌, length, take, drop, get_or}
+use Rattle.std.proofs.Common.{◌/◌, ◌%◌, is_some, sym, ap, ◌∙◌, length, take, drop, get_or}
 use Rattle.block_pool.specs.Chains.{at, entries_of}
 use Rattle.block_pool.specs.Pool.{block_at}
 use Rattle.staged_file.proofs.Positions.{among-positions}

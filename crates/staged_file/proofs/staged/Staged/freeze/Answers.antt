@@ -1,4 +1,4 @@
-use Rattle.std.proofs.Common.{◌≡◌, ◌*◌, ◌≤◌, ◌++◌, length, take, drop, ap, ◌∙◌, arith, take_at}
+use Rattle.std.proofs.Common.{◌≡◌, length, drop, ap, ◌∙◌, arith, take_at}
 use Rattle.staged_file.specs.Frozen.{frozen_content}
 use Rattle.staged_file.proofs.Copies.{copied-content, copied-wanted}
 use Rattle.staged_file.proofs.staged.Staged.freeze.Goals as goal

@@ -1,4 +1,4 @@
-use Rattle.std.proofs.Common.{◌≡◌, ℕ, ◌+◌, ◌-◌, ◌*◌, ◌≤◌, ◌<◌, ◌++◌, max, min, ap, sym, subst, ◌∙◌, length, take, drop, arith, length-take-le, length-drop}
+use Rattle.std.proofs.Common.{◌≡◌, ◌+◌, ◌-◌, ◌*◌, ◌++◌, max, min, subst, ◌∙◌, length, take, drop, arith, length-take-le, length-drop}
 use Rattle.staged_file.specs.Staged.{byte_at}
 use Rattle.staged_file.specs.Steps.{Reads}
 use Rattle.staged_file.proofs.PartsRead.{Reads-mid}
@@ -16,7 +16,8 @@ returns c source holds =
     let some = c.requires.some in
     let meets = c.requires.meets in
     let d = length-drop (low - first) out in
-    let taken : length (take (high - first - (low - first)) (drop (low - first) out)) ≡ high - first - (low - first) = length-take-le (high - first - (low - first)) (drop (low - first) out) (omega arith) in
+    let taken : length (take (high - first - (low - first)) (drop (low - first) out)) ≡ high - first - (low - first) =
+    length-take-le (high - first - (low - first)) (drop (low - first) out) (omega arith) in
     let len : length part ≡ high - first - (low - first) = c.read_part.auto.part ∙ taken in
     let shown = byte_at c.args.pool.now.chains c.args.self.now source in
     let now = take (low - first) out ++ (part ++ drop (high - first - (low - first)) (drop (low - first) out)) in

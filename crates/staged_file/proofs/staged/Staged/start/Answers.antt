@@ -1,8 +1,8 @@
-use Rattle.std.proofs.Common.{◌≡◌, ℕ, Bool, true, false, List, [], ◌∷◌, Option, None, Some, IfSome, is_some, nat_lt, refl, sym, ap, subst, ◌∙◌, length}
+use Rattle.std.proofs.Common.{◌≡◌, ℕ, false, List, [], Option, None, Some, IfSome, is_some, nat_lt, refl, sym, ap, subst, ◌∙◌, length}
 use Rattle.std.proofs.lemmas.Bool.{false≢true}
 use Rattle.block_pool.specs.Chains.{ChainMap}
-use Rattle.staging_spec.specs.Staging.{Staging, staged}
-use Rattle.staged_file.specs.Staged.{staging_of, source_byte}
+use Rattle.staging_spec.specs.Staging.{staged}
+use Rattle.staged_file.specs.Staged.{staging_of}
 use Rattle.staged_file.proofs.Contents.{bytes-source}
 use Rattle.staged_file.proofs.staged.Staged.start.Goals as goal
 

@@ -11,5 +11,7 @@ pub returns-clause-bytes : goal.returns-clause-bytes
 returns-clause-bytes c source holds =
     let high : c.min.result ≡ min (c.args.first + length c.args.from.now) ((c.args.block + 1) * 65536) = omega (arith, c.min.ensures) in
     Puts-after (c.ready.ensures.bytes source holds)
-    (subst (λ n. Puts (byte_at c.ready.new.pool.chains c.ready.new.self source) (byte_at c.put.new.pool.chains c.put.new.self source) (max c.args.first (c.args.block * 65536)) n c.args.first c.args.from.now) high
-    (subst (λ n. Puts (byte_at c.ready.new.pool.chains c.ready.new.self source) (byte_at c.put.new.pool.chains c.put.new.self source) n c.min.result c.args.first c.args.from.now) c.max.ensures (c.put.ensures.bytes source)))
+    (subst (λ n. Puts (byte_at c.ready.new.pool.chains c.ready.new.self source) (byte_at c.put.new.pool.chains c.put.new.self source) (max c.args.first (c.args.block * 65536)) n
+    c.args.first c.args.from.now) high
+    (subst (λ n. Puts (byte_at c.ready.new.pool.chains c.ready.new.self source) (byte_at c.put.new.pool.chains c.put.new.self source) n c.min.result c.args.first c.args.from.now) c.max.ensures
+    (c.put.ensures.bytes source)))
