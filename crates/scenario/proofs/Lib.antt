@@ -1,0 +1,9 @@
+pub mod Arrays
+pub mod Counts
+pub mod Growing
+pub mod JsonTexts
+pub mod Keys
+pub mod PhaseWalks
+pub mod SameTests
+pub mod Scripts
+pub mod Starts
