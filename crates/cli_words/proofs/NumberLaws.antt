@@ -1,5 +1,5 @@
 -- Numbers and their decimal digits, as words.
-use Rattle.std.proofs.Common.{◌≡◌, ◌≢◌, ℕ, zero, suc, ◌+◌, ◌*◌, ◌^◌, ◌<◌, Bool, true, false, List, [], ◌∷◌, length, get_or, refl, sym, ap, ◌∙◌, subst, arith, rules, nat_eq, nat_lt, ◌||◌, ◌&&◌, Result, Ok, Err, inl, inr, MatchResult, MatchOption, Option}
+use Rattle.std.proofs.Common.{◌≡◌, ◌≢◌, ℕ, zero, suc, ◌^◌, ◌<◌, false, List, length, get_or, refl, sym, subst, arith, Result, Ok, Err, MatchResult, MatchOption, Option}
 use Rattle.std.specs.Fmt.{decimal}
 use Rattle.std.specs.Result.{OkIff, result_ok}
 use Rattle.std.specs.Str.Parse.{ParsesUnsigned, AllDigits, digits_value}

@@ -1,13 +1,20 @@
 -- Laws of the lines of a history, item by item.
-use Rattle.std.proofs.Common.{◌≡◌, ℕ, zero, suc, ◌+◌, ◌<◌, ◌≤◌, List, [], ◌∷◌, ◌++◌, length, map, take, drop, get_or, refl, sym, ap, ◌∙◌, append_assoc, append-nil, arith}
+use Rattle.std.proofs.Common.{◌≡◌, ℕ, zero, suc, ◌+◌, ◌<◌, List, [], ◌∷◌, ◌++◌, length, map, take, drop, get_or, refl, sym, ap, ◌∙◌, codes, append_assoc, append-nil, arith}
+use Rattle.std.specs.Fmt.{decimal}
 use Rattle.std.specs.List.{flat_map}
+use Rattle.bucket_api.specs.declared.events.Mode.{Mode}
+use Rattle.bucket_api.specs.Operation.{Operation}
+use Rattle.mount_model.specs.declared.journal.Fill.{Fill}
+use Rattle.mount_model.specs.declared.journal.How.{How}
+use Rattle.mount_model.specs.declared.journal.Use.{Use}
 use Rattle.bucket_api.specs.declared.objects.Object.{Object}
 use Rattle.bucket_api.specs.LogEvent.{LogEvent}
 use Rattle.mount_model.specs.declared.gate.CallId.{CallId}
 use Rattle.mount_model.specs.declared.journal.JournalEntry.{JournalEntry}
-use Rattle.mount_model.specs.Journal.{entry, entries}
-use Rattle.history_text.specs.Words.{line}
-use Rattle.history_text.specs.Lines.{reply_line, object_line, event_line, entry_line}
+use Rattle.mount_model.specs.Journal.{entry, entries, done}
+use Rattle.history_text.specs.Words.{line, spaced, call_word, use_word}
+use Rattle.history_text.specs.Lines.{reply_line, object_line, event_line, entry_line, mode_word, operation_words, how_word, fill_words}
+use Rattle.history_text.proofs.TextLaws.{line_in_two, line_in_three}
 use Rattle.history_text.specs.HistoryText.{text_of, reply_lines, log_lines, journal_lines}
 
 -- the text of one more event
@@ -73,3 +80,19 @@ objects_text (e ∷ es) = ap (λ t. line (object_line e.0 e.1) ++ t) (objects_te
 pub journal_text : (journal : List JournalEntry) → text_of (journal_lines (entries journal)) ≡ flat_map (λ e. line (entry_line (entry e))) journal
 journal_text [] = refl
 journal_text (e ∷ journal) = ap (λ t. line (entry_line (entry e)) ++ t) (journal_text journal)
+
+-- the line of an event, in the parts in which it is printed
+pub event_parts : (moment lane : ℕ) (mode : Mode) (op : Operation) (outcome : List ℕ) → outcome ≡ mode_word mode
+    → line (event_line moment (record { lane = lane; op = op; mode = mode }))
+    ≡ codes "log" ++ spaced (decimal moment ∷ decimal lane ∷ outcome ∷ []) ++ spaced (operation_words op) ++ 10 ∷ []
+event_parts moment lane mode op outcome is =
+    ap (λ w. line (codes "log" ∷ decimal moment ∷ decimal lane ∷ w ∷ operation_words op)) (sym is)
+    ∙ line_in_two (codes "log") (decimal moment ∷ decimal lane ∷ outcome ∷ []) (operation_words op)
+
+-- the line of a call that was done, in the parts in which it is printed
+pub done_parts : (call : CallId) (front : ℕ) (how : How) (uses : List Use) (fill : Fill) (ending : List ℕ) → ending ≡ how_word how
+    → line (entry_line (done call front how uses fill))
+    ≡ codes "done" ++ spaced (call_word call ∷ decimal front ∷ ending ∷ []) ++ spaced (map use_word uses) ++ spaced (fill_words fill) ++ 10 ∷ []
+done_parts call front how uses fill ending is =
+    ap (λ w. line (codes "done" ∷ call_word call ∷ decimal front ∷ w ∷ (map use_word uses ++ fill_words fill))) (sym is)
+    ∙ line_in_three (codes "done") (call_word call ∷ decimal front ∷ ending ∷ []) (map use_word uses) (fill_words fill)

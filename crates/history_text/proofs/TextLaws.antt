@@ -1,16 +1,12 @@
 -- Laws of texts and lines.
-use Rattle.std.proofs.Common.{◌≡◌, ℕ, ◌+◌, ◌*◌, ◌/◌, ◌%◌, slice_index, List, [], ◌∷◌, ◌++◌, length, map, codes, Bool, true, false, if◌then◌else◌, refl, sym, ap, ◌∙◌, append_assoc, arith}
+use Rattle.std.proofs.Common.{◌≡◌, ℕ, ◌*◌, ◌/◌, ◌%◌, slice_index, List, [], ◌∷◌, ◌++◌, length, map, codes, true, false, if◌then◌else◌, refl, sym, ap, ◌∙◌, append_assoc, arith}
 use Rattle.std.specs.List.{flat_map}
 use Rattle.std.proofs.lemmas.Grind.{flat_map-append}
-use Rattle.std.proofs.lemmas.List.{map-append}
 use Rattle.hex.specs.Hex.{encode_lower, encode_with, lower_digits}
-use Rattle.bucket_api.specs.LogEvent.{LogEvent}
-use Rattle.mount_model.specs.Journal.{Entry}
 use Rattle.std.specs.Fmt.{decimal}
 use Rattle.mount_model.specs.declared.journal.Use.{Use}
 use Rattle.history_text.specs.Words.{line, spaced, use_word}
-use Rattle.history_text.specs.Lines.{event_line, entry_line}
-use Rattle.history_text.specs.HistoryText.{LinesGoOn, text_of, log_lines, journal_lines}
+use Rattle.history_text.specs.HistoryText.{History, history_text, text_of, reply_lines, object_lines, log_lines, journal_lines}
 
 -- the digits of bytes that stand one behind the other
 pub digits_append : (xs ys : List ℕ) → encode_lower (xs ++ ys) ≡ encode_lower xs ++ encode_lower ys
@@ -26,22 +22,6 @@ pub length-digits : (xs : List ℕ) → length (encode_lower xs) ≡ 2 * length 
 unfolding encode_with
 length-digits [] = refl
 length-digits (x ∷ xs) = omega (arith, length-digits xs)
-
-log_goes_on : (moment : ℕ) (log more : List LogEvent)
-    → text_of (log_lines moment (log ++ more)) ≡ text_of (log_lines moment log) ++ text_of (log_lines (moment + length log) more)
-log_goes_on moment [] more = ap (λ m. text_of (log_lines m more)) (omega arith)
-log_goes_on moment (e ∷ log) more =
-    ap (λ t. line (event_line moment e) ++ t)
-    (log_goes_on (moment + 1) log more ∙ ap (λ m. text_of (log_lines (moment + 1) log) ++ text_of (log_lines m more)) (omega arith))
-    ∙ sym (append_assoc (line (event_line moment e)) (text_of (log_lines (moment + 1) log)) (text_of (log_lines (moment + length (e ∷ log)) more)))
-
--- a longer log, and a longer journal, have further lines behind
-pub lines_go_on : LinesGoOn
-lines_go_on = record {
-  log = log_goes_on;
-  journal = λ journal more.
-      ap text_of (map-append entry_line journal more) ∙ flat_map-append line (journal_lines journal) (journal_lines more);
-}
 
 -- a use of the call's own operation, and one of a record
 pub use_own : (u : Use) → u.own ≡ true → use_word u ≡ codes "o" ++ decimal u.moment ++ (if u.kept then codes "k" else codes "d")
@@ -64,3 +44,20 @@ pub line_in_three : (first : List ℕ) (ws vs us : List (List ℕ)) → line (fi
 line_in_three first ws vs us =
     line_in_two first ws (vs ++ us) ∙ ap (λ t. first ++ spaced ws ++ t ++ 10 ∷ []) (flat_map-append (λ w. codes " " ++ w) vs us)
     ∙ ap (λ t. t ++ 10 ∷ []) (sym (append_assoc (first ++ spaced ws) (spaced vs) (spaced us)))
+
+-- the whole text, in the parts in which it is printed
+pub text_of_parts : (h whole : History) → h ≡ whole
+    → text_of (reply_lines h.calls h.replies) ++ text_of (object_lines h.bucket) ++ text_of (log_lines 1 h.log) ++ text_of (journal_lines h.journal)
+    ++ line (codes "end" ∷ [])
+    ≡ history_text whole
+text_of_parts h whole is =
+    let replies = reply_lines h.calls h.replies in
+    let objects = object_lines h.bucket in
+    let log = log_lines 1 h.log in
+    let journal = journal_lines h.journal in
+    sym
+    (flat_map-append line (replies ++ objects ++ log ++ journal) ((codes "end" ∷ []) ∷ [])
+    ∙ ap (λ t. t ++ line (codes "end" ∷ []))
+    (flat_map-append line (replies ++ objects ++ log) journal
+    ∙ ap (λ t. t ++ text_of journal) (flat_map-append line (replies ++ objects) log ∙ ap (λ t. t ++ text_of log) (flat_map-append line replies objects))))
+    ∙ ap history_text is

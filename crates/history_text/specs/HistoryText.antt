@@ -54,13 +54,17 @@ journal_lines journal = map entry_line journal
 abbrev pub text_of : List (List (List ℕ)) → List ℕ
 text_of lines = flat_map line lines
 
+-- all lines: those of the replies, the last bucket, the log and the journal, and `end`
+abbrev pub history_lines : History → List (List (List ℕ))
+history_lines h = reply_lines h.calls h.replies ++ object_lines h.bucket ++ log_lines 1 h.log ++ journal_lines h.journal ++ (codes "end" ∷ []) ∷ []
+
 -- the whole text
 abbrev pub history_text : History → List ℕ
-history_text h =
-    text_of (reply_lines h.calls h.replies) ++ text_of (object_lines h.bucket) ++ text_of (log_lines 1 h.log) ++ text_of (journal_lines h.journal)
-    ++ line (codes "end" ∷ [])
+history_text h = text_of (history_lines h)
 
--- A longer log, and a longer journal, have further lines behind those of the shorter one.
-pub record LinesGoOn : Type 0 where
-  pub log : (moment : ℕ) (log more : List LogEvent) → text_of (log_lines moment (log ++ more)) ≡ text_of (log_lines moment log) ++ text_of (log_lines (moment + length log) more)
-  pub journal : (journal more : List Entry) → text_of (journal_lines (journal ++ more)) ≡ text_of (journal_lines journal) ++ text_of (journal_lines more)
+-- The text is its lines, word for word: equal texts have equal lines. A longer log, and a longer journal, have further
+-- lines behind those of the shorter one.
+pub record IsLineByLine : Type 0 where
+  pub told : (h other : History) → history_text h ≡ history_text other → history_lines h ≡ history_lines other
+  pub log : (moment : ℕ) (log more : List LogEvent) → log_lines moment (log ++ more) ≡ log_lines moment log ++ log_lines (moment + length log) more
+  pub journal : (journal more : List Entry) → journal_lines (journal ++ more) ≡ journal_lines journal ++ journal_lines more

@@ -2,9 +2,12 @@
 #![tactic(auto)]
 
 mod lines;
+mod operations;
 mod parts;
 mod played;
 mod printer;
+#[cfg(test)]
+mod tests;
 mod word;
 mod writing;
 

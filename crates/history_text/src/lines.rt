@@ -3,12 +3,12 @@ ghost use Rattle.std.specs.Prelude.{◌≡◌, ◌++◌, ◌∷◌, map};
 ghost use Rattle.bucket_api.specs.Operation.{operation};
 ghost use Rattle.mount_model.specs.Journal.{entry, done};
 ghost use Rattle.history_text.specs.CodeWords.{word_text};
-ghost use Rattle.history_text.specs.Lines.{reply_line, object_line, mode_word, depth_word, operation_words, event_line, how_word, fill_words, entry_line};
+ghost use Rattle.history_text.specs.Lines.{reply_line, object_line, mode_word, event_line, how_word, fill_words, entry_line};
 ghost use Rattle.history_text.specs.Putting.{Prints};
 ghost use Rattle.history_text.specs.Words.{line, spaced, use_word};
 
 use crate::printer::Printer;
-use crate::word::{Word, after_word, frame_word, name_word, only_word};
+use crate::word::{Word, frame_word, name_word};
 use bucket_api::{Event, Mode, Object, Op};
 use io_ports::{Failed, Sink, Text};
 use mount_model::{CallId, Fill, How, JournalEntry, Use};
@@ -22,16 +22,6 @@ fn mode_name<'a>(mode: Mode) -> Word<'a>
         Mode::Failed => Word::Named(b"failed"),
         Mode::Lost => Word::Named(b"lost"),
     }
-}
-
-/// The word of how a listing shows names.
-fn depth_name<'a>(slash: bool) -> Word<'a>
-    ensures { word_text result ≡ depth_word slash }
-{
-    if slash {
-        return Word::Named(b"slash");
-    }
-    Word::Named(b"flat")
 }
 
 /// The word of how a call ended.
@@ -110,98 +100,6 @@ impl Printer {
         self.words(sink, &[Word::Number(moment), Word::Number(lane), outcome])?;
         self.operation(sink, op)?;
         self.text(sink, b"\n")
-    }
-
-    /// Prints the words of an operation.
-    fn operation<W: Sink>(&mut self, sink: &mut W, op: &Op) -> Result<(), Failed>
-        ensures puts { Prints (W.port sink.old) (W.port sink.new) self.old self.new (spaced (operation_words (operation op.now))) result }
-    {
-        match op {
-            Op::Stat { name } => self.words(sink, &[Word::Named(b"stat"), name_word(name)]),
-            Op::Read {
-                name,
-                generation,
-                first,
-                count,
-            } => self.words(
-                sink,
-                &[
-                    Word::Named(b"read"),
-                    name_word(name),
-                    Word::Number(*generation),
-                    Word::Number(*first),
-                    Word::Number(*count),
-                ],
-            ),
-            Op::Insert {
-                name,
-                content,
-                pairs,
-                only,
-                stamp,
-            } => self.words(
-                sink,
-                &[
-                    Word::Named(b"insert"),
-                    name_word(name),
-                    only_word(*only),
-                    Word::Number(*stamp),
-                    Word::Pairs(pairs.as_slice()),
-                    Word::Content(content.as_slice()),
-                ],
-            ),
-            Op::Update {
-                name,
-                pairs,
-                only,
-                only_meta,
-                stamp,
-            } => self.words(
-                sink,
-                &[
-                    Word::Named(b"update"),
-                    name_word(name),
-                    only_word(*only),
-                    only_word(*only_meta),
-                    Word::Number(*stamp),
-                    Word::Pairs(pairs.as_slice()),
-                ],
-            ),
-            Op::Delete { name, only } => self.words(
-                sink,
-                &[Word::Named(b"delete"), name_word(name), only_word(*only)],
-            ),
-            Op::Copy {
-                from,
-                generation,
-                to,
-                stamp,
-            } => self.words(
-                sink,
-                &[
-                    Word::Named(b"copy"),
-                    name_word(from),
-                    Word::Number(*generation),
-                    name_word(to),
-                    Word::Number(*stamp),
-                ],
-            ),
-            Op::List {
-                prefix,
-                slash,
-                max,
-                after,
-            } => self.words(
-                sink,
-                &[
-                    Word::Named(b"list"),
-                    name_word(prefix),
-                    depth_name(*slash),
-                    Word::Number(*max),
-                    after_word(after),
-                ],
-            ),
-        }
     }
 
     /// Prints the line of an entry of the journal.

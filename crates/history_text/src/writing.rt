@@ -3,7 +3,7 @@ ghost use Rattle.std.specs.Prelude.{◌≡◌, [], OnOk, OnErr};
 ghost use Rattle.std.specs.Io.KnownBytes.{Appends};
 ghost use Rattle.io_ports.specs.Faults.{Rose};
 ghost use Rattle.io_ports.specs.Streams.{AppendsPrefix};
-ghost use Rattle.history_text.specs.HistoryText.{IsPlayed, LinesGoOn, history_text};
+ghost use Rattle.history_text.specs.HistoryText.{IsLineByLine, IsPlayed, history_text};
 ghost use Rattle.history_text.specs.Putting.{Prints};
 
 use crate::played::Played;
@@ -32,7 +32,7 @@ pub fn write<W: Sink>(alloc: Global, sink: &mut W, played: &Played) -> Result<()
     ensures err { OnErr result (AppendsPrefix (W.port sink.old).bytes (W.port sink.new).bytes (history_text played.now)) }
     ensures kept { result ≡ Err WriteFault.NoMemory → W.port sink.new ≡ W.port sink.old }
     ensures failed { result ≡ Err WriteFault.Failed → Rose (W.port sink.old).faults (W.port sink.new).faults }
-    ensures lines { LinesGoOn }
+    ensures lines { IsLineByLine }
 {
     let Ok(mut printer) = Printer::new(alloc) else {
         return Err(WriteFault::NoMemory);

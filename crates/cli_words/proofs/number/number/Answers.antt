@@ -1,5 +1,5 @@
 -- What `number` leaves: a padded text is no digits, and what std reads of another is their number.
-use Rattle.std.proofs.Common.{◌≡◌, true, false, sym, ◌∙◌, ap}
+use Rattle.std.proofs.Common.{◌≡◌, true, false, ◌∙◌, ap}
 use Rattle.cli_words.specs.Padded.{is_padded}
 use Rattle.cli_words.proofs.NumberLaws.{decimal_unpadded, parsed, parsed_or_none}
 use Rattle.cli_words.proofs.number.number.Goals as goal

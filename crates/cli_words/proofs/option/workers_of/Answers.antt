@@ -1,5 +1,5 @@
 -- What `workers_of` leaves: a number out of range.
-use Rattle.std.proofs.Common.{◌≡◌, ℕ, ◌<◌, ◌∙◌, sym, arith}
+use Rattle.std.proofs.Common.{◌∙◌, sym, arith}
 use Rattle.std.proofs.lemmas.Fmt.{decimal_injective}
 use Rattle.cli_words.proofs.option.workers_of.Goals as goal
 use Rattle.cli_words.proofs.option.workers_of.Goals.{then-workers-eq0-via-then-workers-eq0, then-workers-eq0-via-else-workers-eq0+then-workers-gt-MOST_WORKERS}

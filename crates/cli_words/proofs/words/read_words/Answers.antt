@@ -1,7 +1,5 @@
 -- What `read_words` leaves: that no other command has the same words.
-use Rattle.std.proofs.Common.{◌≡◌, ℕ, List, ◌∷◌, codes, subst, sym, rules, MatchResult, IfOk}
-use Rattle.cli_words.specs.declared.command.Command.{Command}
-use Rattle.cli_words.specs.Forms.{IsForm}
+use Rattle.std.proofs.Common.{◌≡◌, ◌∷◌, codes, rules}
 use Rattle.cli_words.proofs.FormLaws.{only_form}
 use Rattle.cli_words.proofs.words.read_words.Goals as goal
 

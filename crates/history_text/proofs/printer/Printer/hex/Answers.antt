@@ -1,5 +1,5 @@
 -- What `hex` leaves: its loop, and the exit of a failed call.
-use Rattle.std.proofs.Common.{◌≡◌, ◌++◌, length, sym, arith, take-append-drop}
+use Rattle.std.proofs.Common.{◌≡◌, ◌++◌, length, arith, take-append-drop}
 use Rattle.std.proofs.lemmas.Bool.Decides.{nat_tests}
 use Rattle.history_text.proofs.PartLaws.{digits_by_parts, printed_none, printed_more, printed_stop, printed_all}
 use Rattle.history_text.proofs.PrintLaws.{stopped}

@@ -1,5 +1,5 @@
 -- The loop of `journal`: the items so far are printed.
-use Rattle.std.proofs.Common.{take, ◌++◌, codes}
+use Rattle.std.proofs.Common.{take}
 use Rattle.std.specs.List.{flat_map}
 use Rattle.mount_model.specs.Journal.{entry}
 use Rattle.history_text.specs.Lines.{entry_line}

@@ -1,5 +1,4 @@
 -- What `next_pair` leaves: the exits of failed calls, and the whole text.
-use Rattle.std.proofs.Common.{[], ◌∷◌, ◌++◌, codes}
 use Rattle.history_text.specs.Words.{pair_text}
 use Rattle.history_text.proofs.PrintLaws.{prints_then, stopped, stops_before}
 use Rattle.history_text.proofs.printer.Printer.next_pair.Goals as goal

@@ -1,5 +1,4 @@
 -- What `next_word` leaves: the exits of failed calls, and the whole text.
-use Rattle.std.proofs.Common.{[], ◌∷◌, ◌++◌, codes}
 use Rattle.history_text.specs.CodeWords.{word_text}
 use Rattle.history_text.proofs.PrintLaws.{prints_then, stopped, stops_before}
 use Rattle.history_text.proofs.printer.Printer.next_word.Goals as goal

@@ -1,5 +1,5 @@
 -- What `objects` leaves: its loop.
-use Rattle.std.proofs.Common.{◌≡◌, ℕ, List, [], ◌∷◌, ◌++◌, length, sym, ap, append-nil}
+use Rattle.std.proofs.Common.{ℕ, List, [], ◌∷◌, length, sym, ap, append-nil}
 use Rattle.bucket_api.specs.declared.objects.Object.{Object}
 use Rattle.history_text.specs.Words.{line}
 use Rattle.history_text.specs.Lines.{object_line}

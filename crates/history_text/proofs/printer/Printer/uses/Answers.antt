@@ -1,5 +1,5 @@
 -- What `uses` leaves: its loop.
-use Rattle.std.proofs.Common.{ℕ, false, ◌++◌, codes, get_or, sym, arith}
+use Rattle.std.proofs.Common.{false, ◌++◌, codes, get_or, sym, arith}
 use Rattle.mount_model.specs.declared.journal.Use.{Use}
 use Rattle.history_text.specs.Words.{use_word}
 use Rattle.history_text.proofs.TextLaws.{spaced_map}
