@@ -1,3 +1,4 @@
+//! Errands on names, and what each asks next.
 ghost use Rattle.std.specs.Prelude.{◌≡◌, ◌≢◌, IfOk, OnErr};
 ghost use Rattle.mount_model.specs.Observing.{next_step};
 ghost use Rattle.mount_rules.specs.Plans.{done};

@@ -1,3 +1,4 @@
+//! What came of an errand on names, as a value.
 ghost use Rattle.std.specs.Prelude.{◌≡◌};
 ghost use Rattle.mount_rules.specs.Making as making;
 ghost use Rattle.mount_rules.specs.Plans.{answers_of, last_moment};

@@ -1,3 +1,4 @@
+//! The listing of a directory, page after page.
 ghost use Rattle.std.specs.Prelude.{◌≡◌, ◌≢◌, ◌≤◌, [], None, true, false, IfOk, IfSome, OnErr};
 ghost use Rattle.std.specs.List.{list_all};
 ghost use Rattle.bucket_api.specs.Operation.{list as list_of};

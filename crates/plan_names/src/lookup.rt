@@ -1,3 +1,4 @@
+//! The look-up of a path: first its directory, then its object.
 ghost use Rattle.std.specs.Prelude.{◌≡◌, ◌≢◌, false, [], IfOk, OnErr};
 ghost use Rattle.bucket_api.specs.Operation.{stat as stat_of};
 ghost use Rattle.mount_model.specs.Observing.{next_step};

@@ -1,3 +1,4 @@
+//! The making of an object where none is live.
 ghost use Rattle.std.specs.Prelude.{◌≡◌, ◌≢◌, IfOk, OnErr};
 ghost use Rattle.bucket_api.specs.Metadata.{KeysRise};
 ghost use Rattle.bucket_api.specs.Names.{IsObjectName};
