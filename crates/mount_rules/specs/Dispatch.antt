@@ -8,24 +8,27 @@ use Rattle.fuse_replies.specs.declared.reply.Reply.{Reply}
 use Rattle.fuse_replies.specs.declared.reply.Reply.TheVariants.{Error, Silent}
 use Rattle.fuse_requests.specs.Opcodes as opcodes
 use Rattle.fuse_requests.specs.declared.request.Request.{Request}
-use Rattle.fuse_requests.specs.declared.request.Request.TheVariants.{Lookup, Forget, BatchForget, Interrupt, Init, Statfs, Opendir, Readdir, Releasedir, Fsyncdir, Create, Destroy, Unknown}
-use Rattle.mount_model.specs.declared.config.Config.{Config}
+use Rattle.fuse_requests.specs.declared.request.Request.TheVariants.{Lookup, Forget, BatchForget, Interrupt, Getattr, Init, Opening, Read, Statfs, Opendir, Readdir, Releasedir, Fsyncdir, Create, Destroy, Unknown}
 use Rattle.fuse_replies.specs.Errno.{einval, enosys, eproto}
 use Rattle.mount_rules.specs.Mount.{MountModel}
 use Rattle.mount_model.specs.Observing.{Observed}
-use Rattle.mount_rules.specs.Plans.{Plan, Source, done}
+use Rattle.mount_rules.specs.Plans.{Plan, Wanted, done}
+use Rattle.mount_rules.specs.Requests.BatchForget as batch_forget
 use Rattle.mount_rules.specs.Requests.Create as create
 use Rattle.mount_rules.specs.Requests.Destroy as destroy
 use Rattle.mount_rules.specs.Requests.Forget as forget
 use Rattle.mount_rules.specs.Requests.Fsyncdir as fsyncdir
+use Rattle.mount_rules.specs.Requests.Getattr as getattr
 use Rattle.mount_rules.specs.Requests.Init as init
 use Rattle.mount_rules.specs.Requests.Lookup as lookup
+use Rattle.mount_rules.specs.Requests.Open as open_file
 use Rattle.mount_rules.specs.Requests.Opendir as opendir
+use Rattle.mount_rules.specs.Requests.Read as read
 use Rattle.mount_rules.specs.Requests.Readdir as readdir
 use Rattle.mount_rules.specs.Requests.Releasedir as releasedir
 use Rattle.mount_rules.specs.Requests.Statfs as statfs
 use Rattle.mount_rules.specs.Requests.Unserved as unserved
-use Rattle.mount_rules.specs.Rules.{Rules, Taken}
+use Rattle.mount_rules.specs.Rules.{AtTake, Rules, Taken}
 use Rattle.mount_rules.specs.View.{View, view_of}
 
 -- the requests that never get a reply
@@ -35,8 +38,8 @@ silent_opcodes = opcodes.forget ∷ opcodes.interrupt ∷ opcodes.batch_forget �
 -- the requests that are served and get a reply
 abbrev pub served_opcodes : List ℕ
 served_opcodes =
-    opcodes.lookup ∷ opcodes.statfs ∷ opcodes.init ∷ opcodes.opendir ∷ opcodes.readdir ∷ opcodes.releasedir
-    ∷ opcodes.fsyncdir ∷ opcodes.create ∷ opcodes.destroy ∷ []
+    opcodes.lookup ∷ opcodes.getattr ∷ opcodes.opening ∷ opcodes.reading ∷ opcodes.statfs ∷ opcodes.init
+    ∷ opcodes.opendir ∷ opcodes.readdir ∷ opcodes.releasedir ∷ opcodes.fsyncdir ∷ opcodes.create ∷ opcodes.destroy ∷ []
 
 abbrev pub is_among : List ℕ → ℕ → Bool
 is_among opcodes opcode = list_any (λ o. o == opcode) opcodes
@@ -52,6 +55,10 @@ unread opcode =
 abbrev pub rules_of : Request → Rules
 rules_of (Lookup node name) = lookup.rules node name
 rules_of (Forget node count) = forget.rules node count
+rules_of (BatchForget pairs) = batch_forget.rules pairs.items
+rules_of (Getattr node) = getattr.rules node
+rules_of (Opening node flags) = open_file.rules node
+rules_of (Read node fh first size) = read.rules node fh first size
 rules_of Statfs = statfs.rules
 rules_of (Init major minor readahead flags) = init.rules major minor readahead flags
 rules_of (Opendir node) = opendir.rules node
@@ -61,7 +68,6 @@ rules_of (Fsyncdir node fh) = fsyncdir.rules node fh
 rules_of (Create node name) = create.rules node name
 rules_of Destroy = destroy.rules
 rules_of Interrupt = unserved.rules None
-rules_of (BatchForget pairs) = unserved.rules None
 rules_of (Unknown opcode) = unserved.rules (unread opcode)
 rules_of _ = unserved.rules (Some enosys)
 
@@ -87,8 +93,8 @@ abbrev pub view_in : MountModel → Request → View
 view_in mount request = view_of mount (rules_of request).looks
 
 -- what a request has from a take at this mount
-abbrev pub taken_at : Config → ℕ → MountModel → Request → Taken
-taken_at config second mount request = record { config = config; second = second; view = view_in mount request }
+abbrev pub taken_at : AtTake → MountModel → Request → Taken
+taken_at at mount request = record { at = at; view = view_in mount request }
 
 -- The error with which a request that gets a reply is refused before anything is asked of the bucket: first of all, that
 -- no version is agreed on.
@@ -102,12 +108,12 @@ abbrev pub goes_on : MountModel → Request → Bool
 goes_on mount request = not (is_idle mount request) && not (is_some (early mount request))
 
 -- What a request asks of the bucket next, after these answers; nothing, where it is refused.
-abbrev pub plan : Config → ℕ → MountModel → Request → Plan
-plan config second mount request =
-    if goes_on mount request then (rules_of request).plan (taken_at config second mount request) else (λ answers. done)
+abbrev pub plan : AtTake → MountModel → Request → Plan
+plan at mount request =
+    if goes_on mount request then (rules_of request).plan (taken_at at mount request) else (λ answers. done)
 
--- the source of which it wants a byte
-abbrev pub wants : MountModel → Request → Option Source
+-- the bytes of a source that it wants
+abbrev pub wants : MountModel → Request → Option Wanted
 wants mount request = if goes_on mount request then (rules_of request).wants (view_in mount request) else None
 
 -- what it claims from its take to its end; nothing, where it is refused or has no effect
@@ -115,12 +121,12 @@ abbrev pub claims : MountModel → Request → List Claim
 claims mount request = if goes_on mount request then (rules_of request).claims (view_in mount request) else []
 
 -- what it is answered
-abbrev pub reply_to : Config → ℕ → MountModel → Request → List Observed → Reply
-reply_to config second mount request seen =
+abbrev pub reply_to : AtTake → MountModel → Request → List Observed → Reply
+reply_to at mount request seen =
     if is_idle mount request then Silent
-    else option_map_or Error (early mount request) ((rules_of request).reply (taken_at config second mount request) mount seen)
+    else option_map_or Error (early mount request) ((rules_of request).reply (taken_at at mount request) mount seen)
 
 -- what it leaves: a request that is refused leaves the mount as it was
-abbrev pub mount_after : Config → ℕ → MountModel → Request → List Observed → MountModel
-mount_after config second mount request seen =
-    if goes_on mount request then (rules_of request).after (taken_at config second mount request) mount seen else mount
+abbrev pub mount_after : AtTake → MountModel → Request → List Observed → MountModel
+mount_after at mount request seen =
+    if goes_on mount request then (rules_of request).after (taken_at at mount request) mount seen else mount

@@ -9,7 +9,9 @@ pub mod Mount
 pub mod OneThread
 pub mod Overlap
 pub mod Plans
+pub mod Reading
 pub mod Requests
 pub mod Rules
 pub mod Showing
+pub mod Standing
 pub mod View

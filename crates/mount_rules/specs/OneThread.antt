@@ -1,9 +1,9 @@
 -- The mount on one thread: requests performed one after the other, each at once, on a mount and a bucket.
-use Rattle.std.specs.Prelude.{◌≡◌, ◌≢◌, ℕ, ◌+◌, List, [], ◌∷◌, ◌++◌, length, map, Some, None}
+use Rattle.std.specs.Prelude.{◌≡◌, ◌≢◌, ℕ, ◌+◌, List, [], ◌∷◌, ◌++◌, length, map, Some, None, unwrap_or}
 use Rattle.std.specs.List.{AllByRecursion}
 use Rattle.bucket_api.specs.BucketState.{BucketState, object_of}
 use Rattle.bucket_api.specs.BucketStep.{answer_to}
-use Rattle.bucket_api.specs.Log.{state_at}
+use Rattle.bucket_api.specs.Log.{content_of, state_at}
 use Rattle.bucket_api.specs.LogEvent.{LogEvent}
 use Rattle.bucket_api.specs.declared.events.Mode.TheVariants as modes
 use Rattle.bucket_api.specs.Operation.{Operation}
@@ -18,7 +18,8 @@ use Rattle.mount_rules.specs.Dispatch.{mount_after, plan, reply_to, wants}
 use Rattle.fuse_replies.specs.Errno.{enomem, estale}
 use Rattle.mount_rules.specs.Mount.{MountModel, first_mount, second_at}
 use Rattle.mount_model.specs.Observing.{Observed}
-use Rattle.mount_rules.specs.Plans.{Plan, Source, Step, done, asked_by, Completes, IsHarmless, Walks}
+use Rattle.mount_rules.specs.Plans.{Contents, Plan, Step, Wanted, done, asked_by, Completes, IsHarmless, Walks}
+use Rattle.mount_rules.specs.Rules.{AtTake}
 
 -- A bucket as it was at first, and the log of what was made of it. No read stands in the log: what a file's source holds
 -- is known from the log (`content_of`). All is made under one lane, and nothing fails.
@@ -29,6 +30,10 @@ pub record Store : Type 0 where
 -- the bucket as it stands
 abbrev pub bucket_of : Store → BucketState
 bucket_of store = state_at store.start store.log (length store.log)
+
+-- what each generation holds that was live at some time
+abbrev pub contents_of : Store → Contents
+contents_of store name generation = unwrap_or (content_of store.start store.log name generation) []
 
 -- one more operation was made
 abbrev pub after_operation : Store → Operation → Store
@@ -79,9 +84,13 @@ pub record Call : Type 0 where
 abbrev pub second_of : Config → ℕ
 second_of config = second_at config 0
 
--- what a request asks at this state
+-- what a request has from its take at this state
+abbrev pub at_state : Config → RunState → AtTake
+at_state config state = record { config = config; second = second_of config; contents = contents_of state.store }
+
+-- what it asks
 abbrev pub plan_at : Config → RunState → Request → Plan
-plan_at config state request = plan config (second_of config) state.mount request
+plan_at config state request = plan (at_state config state) state.mount request
 
 -- A call that stops short made nothing but look-ups, copies and lists before, and would have asked something.
 pub record StopsShort (config : Config) (state : RunState) (request : Request) (seen : List Observed) : Type 0 where
@@ -90,9 +99,9 @@ pub record StopsShort (config : Config) (state : RunState) (request : Request) (
 
 -- A stale call wants a byte of a source that is live no more.
 pub record IsStale (state : RunState) (request : Request) (seen : List Observed) : Type 0 where
-  pub source : Source
-  pub wanted : wants state.mount request ≡ Some source
-  pub gone : object_of (bucket_of state.store) source.name source.generation ≡ None
+  pub wanted : Wanted
+  pub wants_it : wants state.mount request ≡ Some wanted
+  pub gone : object_of (bucket_of state.store) wanted.name wanted.generation ≡ None
   pub silent : seen ≡ []
 
 abbrev pub Ends : Config → RunState → Request → List Observed → Ending → Type 0
@@ -107,12 +116,12 @@ pub record IsLawful (config : Config) (state : RunState) (call : Call) : Type 0 
 
 -- what a call is answered, by how it ended
 abbrev pub reply_by : Config → RunState → Call → Ending → Reply
-reply_by config state call performed = reply_to config (second_of config) state.mount call.request call.seen
+reply_by config state call performed = reply_to (at_state config state) state.mount call.request call.seen
 reply_by config state call short = Error enomem
 reply_by config state call stale = Error estale
 
 abbrev pub mount_by : Config → RunState → Call → Ending → MountModel
-mount_by config state call performed = mount_after config (second_of config) state.mount call.request call.seen
+mount_by config state call performed = mount_after (at_state config state) state.mount call.request call.seen
 mount_by config state call short = state.mount
 mount_by config state call stale = state.mount
 

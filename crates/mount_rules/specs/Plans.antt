@@ -1,8 +1,10 @@
 -- What a request asks of the bucket: its plan, the steps of a plan, and the walks along it.
 use Rattle.std.specs.Prelude.{◌≡◌, ℕ, ◌+◌, ◌≤◌, List, [], ◌∷◌, map, Option, Some, None, ◌⊎◌}
 use Rattle.bucket_api.specs.declared.answers.Answer.{Answer}
-use Rattle.bucket_api.specs.Operation.{Operation, read, insert, update, delete}
-use Rattle.mount_model.specs.Observing.{Observed}
+use Rattle.bucket_api.specs.Operation.{Operation, IsAllowed, read, insert, update, delete}
+use Rattle.mount_model.specs.Observing.{NextStep, Observed, finish, insert_staged, make}
+use Rattle.staging_spec.specs.Slices.{Covers, Holds}
+use Rattle.staging_spec.specs.Wanted.{Range}
 
 abbrev pub answers_of : List Observed → List Answer
 answers_of seen = map (λ (o : Observed). o.answer) seen
@@ -18,6 +20,26 @@ pub record Source : Type 0 where
   pub name : List ℕ
   pub generation : ℕ
   pub size : ℕ
+
+-- Bytes of a generation that a request wants.
+pub record Wanted : Type 0 where
+  pub name : List ℕ
+  pub generation : ℕ
+  pub range : Range
+
+-- What each generation of a name holds, whether it is live or not.
+abbrev pub Contents : Type 0
+Contents = List ℕ → ℕ → List ℕ
+
+-- a slice of so many bytes, from this place of the source on, reaches over what is wanted
+abbrev pub CoversWanted : Option Wanted → ℕ → ℕ → Type 0
+CoversWanted None first count = Unit {0}
+CoversWanted (Some wanted) first count = Covers first count wanted.range
+
+-- a slice, from this place on, has bytes of the generation of which some are wanted
+abbrev pub HoldsWanted : Contents → Option Wanted → ℕ → List ℕ → Type 0
+HoldsWanted contents None first bytes = Unit {0}
+HoldsWanted contents (Some wanted) first bytes = Holds (contents wanted.name wanted.generation) first bytes
 
 -- What a plan says next: that the request is done with the bucket; an operation to make; or that the source may be read,
 -- any range of it and any number of times, before the step behind it.
@@ -56,6 +78,24 @@ abbrev pub asked_by : Step → Option Operation
 asked_by done = None
 asked_by (ask op) = Some op
 asked_by (may_read source next) = asked_by next
+
+-- the step, reads left out: the one-thread mount makes none
+abbrev pub without_reads : Step → Step
+without_reads done = done
+without_reads (ask op) = ask op
+without_reads (may_read source next) = without_reads next
+
+-- what the step asks next, reads left out
+abbrev pub next_of : Step → NextStep
+next_of done = finish
+next_of (ask op) = make op
+next_of (may_read source next) = next_of next
+
+-- what is to be made next may be asked of a bucket
+abbrev pub MayMake : NextStep → Type 0
+MayMake finish = Unit {0}
+MayMake insert_staged = ⊥
+MayMake (make op) = IsAllowed op
 
 -- an operation that a call may have made before it stops short: any but an insert, an update or a delete
 abbrev pub IsHarmless : Operation → Type 0

@@ -7,13 +7,19 @@ use Rattle.fuse_replies.specs.declared.reply.Reply.{Reply}
 use Rattle.mount_model.specs.declared.config.Config.{Config}
 use Rattle.mount_rules.specs.Mount.{MountModel}
 use Rattle.mount_model.specs.Observing.{Observed}
-use Rattle.mount_rules.specs.Plans.{Plan, Source}
+use Rattle.mount_rules.specs.Plans.{Contents, Plan, Wanted}
 use Rattle.mount_rules.specs.View.{Looks, View}
 
--- What a request has from its take: the settings, the second, which stamps what it asks, and its view.
-pub record Taken : Type 0 where
+-- What a request has from its take, whatever it sees of the mount: the settings, the second, which stamps what it asks,
+-- and what each generation holds.
+pub record AtTake : Type 0 where
   pub config : Config
   pub second : ℕ
+  pub contents : Contents
+
+-- what its rules go by from then on: that, and its view
+pub record Taken : Type 0 where
+  pub at : AtTake
   pub view : View
 
 pub record Rules : Type 0 where
@@ -21,8 +27,8 @@ pub record Rules : Type 0 where
   -- the first error that refuses it before anything is asked, once a version is agreed on
   pub refusal : View → Option ℕ
   pub plan : Taken → Plan
-  -- the source of which it wants a byte, if it wants one: it may find that source gone
-  pub wants : View → Option Source
+  -- the bytes of a source that it wants, where it wants one: it may find that source gone
+  pub wants : View → Option Wanted
   -- the nodes and names that it claims from its take to its end
   pub claims : View → List Claim
   -- the keys of records that it looks for, in order: an object's path, or a directory's path and a slash
@@ -38,6 +44,10 @@ nowhere = record { node = None; directory = None; handle = None; kept = None; ol
 -- at the head's node
 abbrev pub at_node : ℕ → Looks
 at_node node = record nowhere { node = Some node }
+
+-- at each node of a list
+abbrev pub at_nodes : List ℕ → Looks
+at_nodes numbers = record nowhere { listed = numbers }
 
 -- at a handle, and at the head's node
 abbrev pub at_handle : ℕ → ℕ → Looks

@@ -50,10 +50,10 @@ abbrev pub rules : ℕ → List ℕ → Rules
 rules node name = record {
   looks = at_node node;
   refusal = refusal name;
-  plan = λ taken. making.plan (path_of name taken.view) [] taken.second;
+  plan = λ taken. making.plan (path_of name taken.view) [] taken.at.second;
   wants = λ view. None;
   claims = claims node name;
   keys = λ view. [];
-  reply = λ taken mount seen. reply_to taken.config mount (path_of name taken.view) (last_moment seen) (making.made (answers_of seen));
+  reply = λ taken mount seen. reply_to taken.at.config mount (path_of name taken.view) (last_moment seen) (making.made (answers_of seen));
   after = λ taken mount seen. mount_after mount (path_of name taken.view) (last_moment seen) (making.made (answers_of seen));
 }

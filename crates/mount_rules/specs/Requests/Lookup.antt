@@ -106,10 +106,10 @@ abbrev pub rules : ℕ → List ℕ → Rules
 rules node name = record {
   looks = at_node node;
   refusal = refusal name;
-  plan = λ taken. plan taken.config.implicit_dirs (path_of name taken.view) (has_suffix name);
+  plan = λ taken. plan taken.at.config.implicit_dirs (path_of name taken.view) (has_suffix name);
   wants = λ view. None;
   claims = claims node name;
   keys = λ view. dir_prefix_of (path_of name view) ∷ path_of name view ∷ [];
-  reply = λ taken mount seen. reply_to taken.config mount.table (path_of name taken.view) (last_moment seen) (found (answers_of seen));
+  reply = λ taken mount seen. reply_to taken.at.config mount.table (path_of name taken.view) (last_moment seen) (found (answers_of seen));
   after = λ taken mount seen. record mount { table = table_after mount.table (path_of name taken.view) (last_moment seen) (found (answers_of seen)) };
 }

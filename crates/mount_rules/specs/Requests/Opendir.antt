@@ -67,10 +67,10 @@ abbrev pub rules : ℕ → Rules
 rules node = record {
   looks = at_node node;
   refusal = refusal;
-  plan = λ taken. plan (prefix_of taken.view) taken.config.list_page None;
+  plan = λ taken. plan (prefix_of taken.view) taken.at.config.list_page None;
   wants = λ view. None;
   claims = λ view. shares_node node ∷ [];
   keys = λ view. [];
-  reply = λ taken mount seen. reply_to mount (entries (prefix_of taken.view) taken.config.implicit_dirs (answers_of seen));
-  after = λ taken mount seen. mount_after node mount (entries (prefix_of taken.view) taken.config.implicit_dirs (answers_of seen));
+  reply = λ taken mount seen. reply_to mount (entries (prefix_of taken.view) taken.at.config.implicit_dirs (answers_of seen));
+  after = λ taken mount seen. mount_after node mount (entries (prefix_of taken.view) taken.at.config.implicit_dirs (answers_of seen));
 }

@@ -10,18 +10,13 @@ use Rattle.object_names.specs.declared.shown.DirItem.{DirItem}
 use Rattle.object_names.specs.declared.shown.NodeKind.{NodeKind}
 use Rattle.object_names.specs.declared.shown.NodeKind.TheVariants.{Dir, File, Symlink}
 use Rattle.mount_rules.specs.Claiming.{shares_node}
-use Rattle.fuse_replies.specs.Errno.{einval}
-use Rattle.mount_rules.specs.Guards.{entries_opened, on_open_directory}
+use Rattle.mount_rules.specs.Guards.{entries_opened, on_open_directory, size_refusal}
 use Rattle.mount_rules.specs.Plans.{done}
 use Rattle.mount_rules.specs.Rules.{Rules, at_handle}
 use Rattle.mount_rules.specs.View.{View}
 
--- the most bytes that a READ or READDIR may ask for
-abbrev pub longest_read : ℕ
-longest_read = 1048576
-
 abbrev pub refusal : ℕ → ℕ → View → Option ℕ
-refusal node size view = on_open_directory node view.handle (λ entries. if nat_le size longest_read then None else Some einval)
+refusal node size view = on_open_directory node view.handle (λ entries. size_refusal size)
 
 -- the type of a directory entry: DT_DIR, DT_REG and DT_LNK of dirent.h
 abbrev pub type_of : NodeKind → ℕ

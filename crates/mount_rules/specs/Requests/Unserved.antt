@@ -1,6 +1,6 @@
 -- The requests that the mount doesn't serve, and those whose bodies it could not read. They ask nothing and change
--- nothing: each is refused, but for BATCH_FORGET and INTERRUPT, and FORGETs that could not be read, which the kernel
--- sends without waiting for a reply.
+-- nothing: each is refused, but for INTERRUPT, and FORGETs that could not be read, which the kernel sends without waiting
+-- for a reply.
 use Rattle.std.specs.Prelude.{ℕ, None, Option, []}
 use Rattle.fuse_replies.specs.declared.reply.Reply.TheVariants.{Silent}
 use Rattle.mount_rules.specs.Plans.{done}
