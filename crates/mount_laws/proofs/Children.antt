@@ -1,5 +1,5 @@
 -- The paths of children: a part of a live directory has a path, and a directory's prefix.
-use Rattle.std.proofs.Common.{◌≡◌, ◌≤◌, ℕ, Bool, true, false, List, [], ◌∷◌, Option, Some, None, refl, sym, ap, subst, ◌∙◌, length, option_map}
+use Rattle.std.proofs.Common.{◌≡◌, ◌≢◌, ◌≤◌, ℕ, Bool, true, false, List, [], ◌∷◌, Option, Some, None, refl, sym, ap, subst, ◌∙◌, length, option_map}
 use Rattle.std.proofs.lemmas.List.Elements.{All-nil}
 use Rattle.std.specs.FinMap as fin
 use Rattle.bucket_api.specs.Metadata.{Metadata}
@@ -75,3 +75,8 @@ IsNameOf-object meta path is = by (has_target meta.pairs)
     by : (link : Bool) → IsNameOf (file_or_link link) path
     by true = is
     by false = is
+
+-- and no directory
+pub no_directory : (link : Bool) → file_or_link link ≢ Dir
+no_directory true e = absurd cc
+no_directory false e = absurd cc

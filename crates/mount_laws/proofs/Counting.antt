@@ -1,11 +1,14 @@
 -- How changes of a table of nodes change counts of look-ups.
-use Rattle.std.proofs.Common.{◌≡◌, ◌≢◌, ◌≤◌, ◌+◌, ◌-◌, ℕ, Bool, true, false, cond, Option, Some, None, refl, sym, ap, ◌∙◌, nat_eq, nat_cmp, nat_le, arith}
+use Rattle.std.proofs.Common.{◌≡◌, ◌≢◌, ◌≤◌, ◌+◌, ◌-◌, ℕ, Bool, true, false, cond, Option, Some, None, refl, sym, ap, ◌∙◌, nat_eq, nat_cmp, nat_lt, arith}
+use Rattle.std.proofs.lemmas.Bool.{false≢true}
 use Rattle.std.proofs.lemmas.Bool.Decides.{Decides-eqb, nat_tests}
-use Rattle.std.specs.Prelude.{if◌then◌else◌, ◌&&◌, is_some}
+use Rattle.std.specs.Prelude.{if◌then◌else◌, ◌||◌}
 use Rattle.std.specs.FinMap as fin
 use Rattle.std.specs.Option.{option_map_or}
-use Rattle.inode_spec.specs.Inodes.{first_table, forgotten, forgotten_at, left_without, lookups_of, root, with_inode, without_current}
+use Rattle.inode_spec.proofs.Cases.{on_found, on_test, where_kept}
+use Rattle.inode_spec.specs.Inodes.{first_table, forgotten, let_go, lookups_of, root, with_inode}
 use Rattle.mount_rules.specs.Mount.{File, Node, NodeTable}
+use Rattle.mount_laws.proofs.Changes.{on_forgotten_at, on_let_go}
 use Rattle.spare_maps.proofs.FinMaps.{get-insert_number, get-remove_number, number_put_other}
 
 -- the look-ups of what is found, none where nothing is
@@ -34,6 +37,9 @@ module _ (table : NodeTable) (number : ℕ) where
       by true = refl
       by false = refl
 
+  abbrev Same : NodeTable → Type 0
+  Same after = lookups_of after number ≡ lookups_of table number
+
   is_same : (k : ℕ) → nat_eq number k ≡ true → number ≡ k
   is_same k is = (Decides-eqb number k).0 is
 
@@ -50,52 +56,43 @@ module _ (table : NodeTable) (number : ℕ) where
   counts_same = omega arith
 
   -- look-ups given back
-  pub counts_forgotten : (k count : ℕ) (held : Bool) → number ≢ 1
-      → lookups_of (forgotten table k count held) number ≡ (lookups_of table number + 0) - (if nat_eq number k then count else 0)
-  counts_forgotten k count held other = on_root (nat_eq k 1) refl
+  abbrev LessBy : ℕ → ℕ → NodeTable → Type 0
+  LessBy k count after = lookups_of after number ≡ (lookups_of table number + 0) - (if nat_eq number k then count else 0)
+
+  pub counts_forgotten : (k count : ℕ) (held : Bool) → number ≢ 1 → LessBy k count (forgotten table k count held)
+  counts_forgotten k count held other =
+      on_test (LessBy k count) (nat_eq k 1) _ _ (λ root. none (nat_eq number k) (λ same. absurd (other (is_same k same ∙ (Decides-eqb k 1).0 root))))
+      (λ one. on_found (LessBy k count) (fin.get table.nodes k) _ table (λ absent. none (nat_eq number k) (λ same. ap (lookups_of table) (is_same k same) ∙ ap count_of absent))
+      (λ node there. on_test (LessBy k count) (nat_eq node.lookups 0) _ _
+      (λ zero_. none (nat_eq number k) (λ same. has node there same ∙ (Decides-eqb node.lookups 0).0 zero_))
+      (λ some. on_forgotten_at (LessBy k count) table k count held node
+      (λ every. counts_put k (record node { lookups = 0 }) ∙ all node (nat_eq number k) there (grind (arith, nat_tests, every)) refl)
+      (λ every. counts_taken k ∙ all node (nat_eq number k) there (grind (arith, nat_tests, every)) refl)
+      (λ fewer. counts_put k (record node { lookups = node.lookups - count }) ∙ less node (nat_eq number k) there refl))))
     where
-      none_to_take : (b : Bool) → (b ≡ true → lookups_of table number ≡ 0) → lookups_of table number ≡ (lookups_of table number + 0) - (if b then count else 0)
-      none_to_take true none = let nothing : lookups_of table number ≡ 0 = none refl in omega (arith, nothing)
-      none_to_take false none = omega arith
+      none : (b : Bool) → (b ≡ true → lookups_of table number ≡ 0) → lookups_of table number ≡ (lookups_of table number + 0) - (if b then count else 0)
+      none true nothing = let zero_ : lookups_of table number ≡ 0 = nothing refl in omega (arith, zero_)
+      none false nothing = omega arith
 
       has : (node : Node) → fin.get table.nodes k ≡ Some node → nat_eq number k ≡ true → lookups_of table number ≡ node.lookups
-      has node is same = ap (lookups_of table) (is_same k same) ∙ ap count_of is
+      has node there same = ap (lookups_of table) (is_same k same) ∙ ap count_of there
 
       all : (node : Node) (b : Bool) → fin.get table.nodes k ≡ Some node → node.lookups ≤ count → nat_eq number k ≡ b
           → cond b 0 (lookups_of table number) ≡ (lookups_of table number + 0) - (if b then count else 0)
-      all node true is few same = let h : lookups_of table number ≡ node.lookups = has node is same in omega (arith, h, few)
-      all node false is few same = omega arith
-
-      left : (stays : Bool) (node : Node) → fin.get table.nodes k ≡ Some node → node.lookups ≤ count
-          → count_of (fin.get (if stays then fin.insert table.nodes k (record node { lookups = 0 }) else fin.remove table.nodes k) number)
-          ≡ (lookups_of table number + 0) - (if nat_eq number k then count else 0)
-      left true node is few = counts_put k (record node { lookups = 0 }) ∙ all node (nat_eq number k) is few refl
-      left false node is few = counts_taken k ∙ all node (nat_eq number k) is few refl
+      all node true there few same = let h : lookups_of table number ≡ node.lookups = has node there same in omega (arith, h, few)
+      all node false there few same = omega arith
 
       less : (node : Node) (b : Bool) → fin.get table.nodes k ≡ Some node → nat_eq number k ≡ b
           → cond b (node.lookups - count) (lookups_of table number) ≡ (lookups_of table number + 0) - (if b then count else 0)
-      less node true is same = let h : lookups_of table number ≡ node.lookups = has node is same in omega (arith, h)
-      less node false is same = omega arith
+      less node true there same = let h : lookups_of table number ≡ node.lookups = has node there same in omega (arith, h)
+      less node false there same = omega arith
 
-      some : (node : Node) (every : Bool) → fin.get table.nodes k ≡ Some node → nat_le node.lookups count ≡ every
-          → lookups_of (if every then record table { nodes = left_without table.nodes k held node; current = without_current table.current node.name k } else with_inode table k (record node { lookups = node.lookups - count })) number
-          ≡ (lookups_of table number + 0) - (if nat_eq number k then count else 0)
-      some node true is few = left (held && is_some node.file) node is (grind (arith, nat_tests, few))
-      some node false is few = counts_put k (record node { lookups = node.lookups - count }) ∙ less node (nat_eq number k) is refl
-
-      on_none : (node : Node) (b : Bool) → fin.get table.nodes k ≡ Some node → nat_eq node.lookups 0 ≡ b
-          → lookups_of (if b then table else forgotten_at table k count held node) number ≡ (lookups_of table number + 0) - (if nat_eq number k then count else 0)
-      on_none node true is none = none_to_take (nat_eq number k) (λ same. has node is same ∙ (Decides-eqb node.lookups 0).0 none)
-      on_none node false is none = some node (nat_le node.lookups count) is refl
-
-      there : (found : Option Node) → fin.get table.nodes k ≡ found
-          → lookups_of (option_map_or (λ (node : Node). if nat_eq node.lookups 0 then table else forgotten_at table k count held node) found table) number
-          ≡ (lookups_of table number + 0) - (if nat_eq number k then count else 0)
-      there None is = none_to_take (nat_eq number k) (λ same. ap (lookups_of table) (is_same k same) ∙ ap count_of is)
-      there (Some node) is = on_none node (nat_eq node.lookups 0) is refl
-
-      on_root : (b : Bool) → nat_eq k 1 ≡ b
-          → lookups_of (if b then table else option_map_or (λ (node : Node). if nat_eq node.lookups 0 then table else forgotten_at table k count held node) (fin.get table.nodes k) table) number
-          ≡ (lookups_of table number + 0) - (if nat_eq number k then count else 0)
-      on_root true is = none_to_take (nat_eq number k) (λ same. absurd (other (is_same k same ∙ (Decides-eqb k 1).0 is)))
-      on_root false is = there (fin.get table.nodes k) refl
+  -- a node that goes with its last handle has none
+  pub counts_let_go : (k : ℕ) → lookups_of (let_go table k) number ≡ lookups_of table number
+  counts_let_go k = on_let_go Same table k refl
+      (λ node there idle. counts_taken k
+      ∙ where_kept number k 0 (lookups_of table number) (λ same. sym (ap (lookups_of table) same ∙ ap count_of there ∙ no_lookups (nat_eq k 1) node.lookups idle)))
+    where
+      no_lookups : (is_root : Bool) (n : ℕ) → (is_root || nat_lt 0 n) ≡ false → n ≡ 0
+      no_lookups true n e = absurd (false≢true (sym e))
+      no_lookups false n e = grind (arith, nat_tests, e)

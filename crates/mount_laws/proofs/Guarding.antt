@@ -1,7 +1,7 @@
 -- What is known where a guard refuses nothing: what it looked at is there.
 use Rattle.std.proofs.Common.{◌≡◌, ℕ, Bool, true, false, List, Option, Some, None, refl, length, ◌≤◌, nat_le, nat_eq, arith}
 use Rattle.std.proofs.lemmas.Bool.Decides.{Decides-eqb, nat_tests}
-use Rattle.std.specs.Prelude.{if◌then◌else◌}
+use Rattle.std.specs.Prelude.{if◌then◌else◌, ◌&&◌, not, is_some, option_and_then}
 use Rattle.std.specs.Option.{option_map_or}
 use Rattle.handle_table.specs.Handles.{Opened}
 use Rattle.object_names.proofs.ComponentLemmas.{IsComponent-from_no_fault}
@@ -12,9 +12,10 @@ use Rattle.object_names.specs.declared.component.NameFault.TheVariants.{TooLong}
 use Rattle.object_names.specs.declared.shown.DirItem.{DirItem}
 use Rattle.object_names.specs.declared.shown.NodeKind.{NodeKind}
 use Rattle.object_names.specs.declared.shown.NodeKind.TheVariants.{Dir, File, Symlink}
-use Rattle.fuse_replies.specs.Errno.{ebadf, enametoolong, enomem, enotdir, estale}
-use Rattle.mount_rules.specs.Guards.{errno_of_fault, in_directory, is_directory, on_live, on_open_directory, part_refusal}
-use Rattle.mount_rules.specs.View.{Sight, child_of}
+use Rattle.fuse_replies.specs.Errno.{ebadf, einval, enametoolong, enomem, enotdir, estale}
+use Rattle.mount_rules.specs.Guards.{errno_of_fault, file_opened, in_directory, in_file, is_directory, is_file_of, longest_read, not_directory, on_file, on_live, on_open_directory, on_open_file, part_refusal, size_refusal}
+use Rattle.mount_rules.specs.View.{Sight, View, child_of}
+use Rattle.mount_laws.proofs.Memory.{errors_differ}
 
 -- a live node was seen, and what comes behind the guard refuses nothing either
 pub record SeesLive (seen : Option Sight) (next : Sight → Option ℕ) : Type 0 where
@@ -25,10 +26,6 @@ pub record SeesLive (seen : Option Sight) (next : Sight → Option ℕ) : Type 0
 
 refuses : {errno : ℕ} → Some errno ≡ None → ⊥
 refuses e = cc
-
--- two errors are two
-pub errors_differ : {errno : ℕ} → (errno ≡ enomem → ⊥) → Some errno ≡ Some enomem → ⊥
-errors_differ {errno} other e = let same : errno ≡ enomem = cc in other same
 
 pub on_live-none : (seen : Option Sight) (next : Sight → Option ℕ) → on_live seen next ≡ None → SeesLive seen next
 on_live-none None next none = absurd (refuses none)
@@ -96,6 +93,70 @@ on_open_directory-none node (Some handle) next none = on (nat_eq handle.node nod
     on true same e = with_items ((Decides-eqb handle.node node).0 same) handle.items refl e
     on false same e = absurd (refuses e)
 
+-- a live file was seen
+pub record SeesFile (seen : Option Sight) (next : Sight → Option ℕ) : Type 0 where
+  pub sight : Sight
+  pub is : seen ≡ Some sight
+  pub live : sight.live ≡ true
+  pub file : sight.kind ≡ File
+  pub next_none : next sight ≡ None
+
+pub in_file-none : (seen : Option Sight) (next : Sight → Option ℕ) → in_file seen next ≡ None → SeesFile seen next
+in_file-none seen next none = by (on_live-none seen _ none)
+  where
+    kinds : (sight : Sight) → seen ≡ Some sight → sight.live ≡ true → (kind : NodeKind) → sight.kind ≡ kind → on_file kind (next sight) ≡ None → SeesFile seen next
+    kinds sight is live File kind e = record { sight = sight; is = is; live = live; file = kind; next_none = e }
+    kinds sight is live Dir kind e = absurd (refuses e)
+    kinds sight is live Symlink kind e = absurd (refuses e)
+
+    by : SeesLive seen (λ sight. on_file sight.kind (next sight)) → SeesFile seen next
+    by s = kinds s.sight s.is s.live s.sight.kind refl s.next_none
+
+-- a handle of a file was seen, on the node, which is there
+pub record SeesOpenFile (node : ℕ) (view : View) (next : Sight → Option ℕ) : Type 0 where
+  pub handle : Opened
+  pub is : view.handle ≡ Some handle
+  pub node_is : handle.node ≡ node
+  pub no_items : handle.items ≡ None
+  pub sight : Sight
+  pub seen : view.node ≡ Some sight
+  pub file : is_directory sight.kind ≡ false
+  pub next_none : next sight ≡ None
+
+pub on_open_file-none : (node : ℕ) (view : View) (next : Sight → Option ℕ) → on_open_file node view next ≡ None → SeesOpenFile node view next
+on_open_file-none node view next none = by view.handle view.node refl refl none
+  where
+    items_none : (items : Option (List DirItem)) → is_some items ≡ false → items ≡ None
+    items_none None e = refl
+    items_none (Some items) e = absurd cc
+
+    kinds : (handle : Opened) (sight : Sight) → view.handle ≡ Some handle → view.node ≡ Some sight → nat_eq handle.node node ≡ true → is_some handle.items ≡ false
+        → (directory : Bool) → is_directory sight.kind ≡ directory → option_map_or next (if directory then None else Some sight) (Some ebadf) ≡ None → SeesOpenFile node view next
+    kinds handle sight h s same held true k e = absurd (refuses e)
+    kinds handle sight h s same held false k e = record {
+      handle = handle;
+      is = h;
+      node_is = (Decides-eqb handle.node node).0 same;
+      no_items = items_none handle.items held;
+      sight = sight;
+      seen = s;
+      file = k;
+      next_none = e;
+    }
+
+    tests : (handle : Opened) (seen : Option Sight) → view.handle ≡ Some handle → view.node ≡ seen
+        → (same held : Bool) → nat_eq handle.node node ≡ same → is_some handle.items ≡ held
+        → option_map_or next (if same && not held then option_and_then not_directory seen else None) (Some ebadf) ≡ None → SeesOpenFile node view next
+    tests handle (Some sight) h s true false same held e = kinds handle sight h s same held (is_directory sight.kind) refl e
+    tests handle None h s true false same held e = absurd (refuses e)
+    tests handle seen h s true true same held e = absurd (refuses e)
+    tests handle seen h s false held_ same held e = absurd (refuses e)
+
+    by : (handle : Option Opened) (seen : Option Sight) → view.handle ≡ handle → view.node ≡ seen
+        → option_map_or next (option_and_then (λ (h : Opened). if is_file_of node h then option_and_then not_directory seen else None) handle) (Some ebadf) ≡ None → SeesOpenFile node view next
+    by None seen h s e = absurd (refuses e)
+    by (Some handle) seen h s e = tests handle seen h s (nat_eq handle.node node) (is_some handle.items) refl refl e
+
 -- ---- no guard answers want of memory
 pub on_live-memory : (seen : Option Sight) (next : Sight → Option ℕ) → ((sight : Sight) → next sight ≡ Some enomem → ⊥) → on_live seen next ≡ Some enomem → ⊥
 on_live-memory None next other e = errors_differ (λ same. absurd (omega (arith, same))) e
@@ -140,3 +201,25 @@ on_open_directory-memory node (Some handle) next other e = on (nat_eq handle.nod
     on : (b : Bool) → option_map_or next (if b then handle.items else None) (Some ebadf) ≡ Some enomem → ⊥
     on true e = with_items handle.items e
     on false e = errors_differ (λ same. absurd (omega (arith, same))) e
+
+pub in_file-memory : (seen : Option Sight) (next : Sight → Option ℕ) → ((sight : Sight) → next sight ≡ Some enomem → ⊥) → in_file seen next ≡ Some enomem → ⊥
+in_file-memory seen next other = on_live-memory seen _ (λ sight. by sight sight.kind)
+  where
+    by : (sight : Sight) (kind : NodeKind) → on_file kind (next sight) ≡ Some enomem → ⊥
+    by sight File e = other sight e
+    by sight Dir e = errors_differ (λ same. absurd (omega (arith, same))) e
+    by sight Symlink e = errors_differ (λ same. absurd (omega (arith, same))) e
+
+pub on_open_file-memory : (node : ℕ) (view : View) (next : Sight → Option ℕ) → ((sight : Sight) → next sight ≡ Some enomem → ⊥) → on_open_file node view next ≡ Some enomem → ⊥
+on_open_file-memory node view next other = by (file_opened node view)
+  where
+    by : (seen : Option Sight) → option_map_or next seen (Some ebadf) ≡ Some enomem → ⊥
+    by None e = errors_differ (λ same. absurd (omega (arith, same))) e
+    by (Some sight) e = other sight e
+
+pub size_refusal-memory : (size : ℕ) → size_refusal size ≡ Some enomem → ⊥
+size_refusal-memory size = by (nat_le size longest_read)
+  where
+    by : (b : Bool) → (if b then None else Some einval) ≡ Some enomem → ⊥
+    by true e = cc
+    by false e = errors_differ (λ same. absurd (omega (arith, same))) e

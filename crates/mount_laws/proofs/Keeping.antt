@@ -2,7 +2,7 @@
 use Rattle.std.proofs.Common.{◌≡◌, ◌<◌, ◌+◌, ℕ, Bool, true, false, cond, List, [], ◌∷◌, Option, Some, None, refl, sym, ap, subst, ◌∙◌, inl, inr, nat_eq, arith, option_map}
 use Rattle.std.proofs.lemmas.Bool.Decides.{Decides-eqb}
 use Rattle.std.proofs.lemmas.Slice.Eq.{bytes_eq-Decides}
-use Rattle.std.specs.Prelude.{if◌then◌else◌, option_and_then, ◌&&◌, is_some, nat_le, ◌-◌}
+use Rattle.std.specs.Prelude.{if◌then◌else◌, option_and_then, ◌-◌}
 use Rattle.std.specs.FinMap as fin
 use Rattle.std.specs.Option.{option_map_or}
 use Rattle.std.specs.Str.{bytes_eq}
@@ -11,12 +11,19 @@ use Rattle.claim_spec.specs.Conflicts.{IsClaimed, IsOwned}
 use Rattle.claim_spec.specs.declared.claim.Claim.{Claim}
 use Rattle.claim_spec.specs.declared.claim.ClaimKey.{ClaimKey}
 use Rattle.claim_spec.specs.declared.claim.ClaimKey.TheVariants as key
-use Rattle.inode_spec.specs.Inodes.{Names, granted, with_inode, forgotten_at, left_without, without_current}
+use Rattle.inode_spec.specs.Inodes.{Names, forgotten, forgotten_at, granted, let_go, with_inode, without_current}
 use Rattle.handle_table.specs.Handles.{Opened}
 use Rattle.mount_rules.specs.Mount.{File, IsMount, Node, NodeTable, MountModel}
 use Rattle.mount_rules.specs.Laws.{Keeps}
 use Rattle.mount_rules.specs.View.{Sight, kept_at, sight_at, sight_of}
+use Rattle.mount_laws.proofs.Changes.{on_forgotten, on_forgotten_at, on_let_go}
 use Rattle.spare_maps.proofs.FinMaps.{get-insert_number, get-remove_number, get-insert_name, get-remove_name, number_put_other, number_taken_other}
+
+-- the current nodes of names that are left
+abbrev LeavesNames : List Claim → NodeTable → Names → Type 0
+LeavesNames claimed table names = (name : List ℕ) → (IsClaimed claimed (key.Name name) → ⊥)
+    → ((number : ℕ) → fin.get table.current name ≡ Some number → IsOwned claimed (key.Node number) → ⊥)
+    → fin.get names name ≡ fin.get table.current name
 
 -- what a change of the table leaves to calls whose claims don't conflict with these
 pub record TableKeeps (claimed : List Claim) (table after : NodeTable) : Type 0 where
@@ -25,9 +32,7 @@ pub record TableKeeps (claimed : List Claim) (table after : NodeTable) : Type 0 
   pub kept : (number : ℕ) (sight : Sight) → sight_at table number ≡ Some sight
       → (IsClaimed claimed (key.Node number) → ⊥) → (IsClaimed claimed (key.Name sight.name) → ⊥)
       → kept_at after number ≡ kept_at table number
-  pub current : (name : List ℕ) → (IsClaimed claimed (key.Name name) → ⊥)
-      → ((number : ℕ) → fin.get table.current name ≡ Some number → IsOwned claimed (key.Node number) → ⊥)
-      → fin.get after.current name ≡ fin.get table.current name
+  pub current : LeavesNames claimed table after.current
 
 -- a claim that is owned is claimed
 pub claimed_by_owner : (claims : List Claim) (k : ClaimKey) → IsOwned claims k → IsClaimed claims k
@@ -136,56 +141,58 @@ module _ (claimed : List Claim) (table : NodeTable) where
       fresh : (number : ℕ) (sight : Sight) → sight_at table number ≡ Some sight → number ≡ table.next → ⊥
       fresh number sight is = under number sight (fin.get table.nodes number) refl is
 
-  -- look-ups of a node that is owned are given back
-  pub TableKeeps-forgotten : (k count : ℕ) (held : Bool) (node : Node) → IsOwned claimed (key.Node k) → TableKeeps claimed table (forgotten_at table k count held node)
-  TableKeeps-forgotten k count held node owned = by (nat_le node.lookups count)
-    where
-      not_mine : (number : ℕ) → (IsOwned claimed (key.Node number) → ⊥) → number ≡ k → ⊥
-      not_mine number mine n = mine (subst (λ m. IsOwned claimed (key.Node m)) (sym n) owned)
+  -- a node that is owned is written anew, or goes
+  module _ (k : ℕ) (owned : IsOwned claimed (key.Node k)) where
+    not_mine : (number : ℕ) → (IsOwned claimed (key.Node number) → ⊥) → number ≡ k → ⊥
+    not_mine number mine n = mine (subst (λ m. IsOwned claimed (key.Node m)) (sym n) owned)
 
-      unclaimed : (number : ℕ) → (IsClaimed claimed (key.Node number) → ⊥) → number ≡ k → ⊥
-      unclaimed number mine n = mine (subst (λ m. IsClaimed claimed (key.Node m)) (sym n) (claimed_by_owner claimed (key.Node k) owned))
+    unclaimed : (number : ℕ) → (IsClaimed claimed (key.Node number) → ⊥) → number ≡ k → ⊥
+    unclaimed number mine n = mine (subst (λ m. IsClaimed claimed (key.Node m)) (sym n) (claimed_by_owner claimed (key.Node k) owned))
 
-      names_left : (name : List ℕ) → ((number : ℕ) → fin.get table.current name ≡ Some number → IsOwned claimed (key.Node number) → ⊥)
-          → fin.get (without_current table.current node.name k) name ≡ fin.get table.current name
-      names_left name mine = at (fin.get table.current node.name) refl
-        where
-          was : (b : Bool) (number : ℕ) → fin.get table.current node.name ≡ Some number → nat_eq k number ≡ b
-              → fin.get (if b then fin.remove table.current node.name else table.current) name ≡ fin.get table.current name
-          was true number is e =
-              get-remove_name table.current node.name name ∙ other_name name node.name _ _ (λ n. mine number (ap (fin.get table.current) n ∙ is) (subst (λ m. IsOwned claimed (key.Node m)) ((Decides-eqb k number).0 e) owned))
-          was false number is e = refl
+    TableKeeps-put : (v : Node) (names : Names) → LeavesNames claimed table names → TableKeeps claimed table (record table { nodes = fin.insert table.nodes k v; current = names })
+    TableKeeps-put v names left = record {
+      sights = λ number sight is mine. sight_put table number k v ∙ other_number number k _ _ (not_mine number mine) ∙ is;
+      kept = λ number sight is mine other. kept_put table number k v ∙ other_number number k _ _ (unclaimed number mine);
+      current = left;
+    }
 
-          at : (found : Option ℕ) → fin.get table.current node.name ≡ found
-              → fin.get (if option_map_or (nat_eq k) found false then fin.remove table.current node.name else table.current) name ≡ fin.get table.current name
-          at None is = refl
-          at (Some number) is = was (nat_eq k number) number is refl
+    TableKeeps-taken : (names : Names) → LeavesNames claimed table names → TableKeeps claimed table (record table { nodes = fin.remove table.nodes k; current = names })
+    TableKeeps-taken names left = record {
+      sights = λ number sight is mine. sight_taken table number k ∙ other_number number k _ _ (not_mine number mine) ∙ is;
+      kept = λ number sight is mine other. kept_taken table number k ∙ other_number number k _ _ (unclaimed number mine);
+      current = left;
+    }
 
-      put : (v : Node) (names : Names) → ((name : List ℕ) → (IsClaimed claimed (key.Name name) → ⊥) → ((number : ℕ) → fin.get table.current name ≡ Some number → IsOwned claimed (key.Node number) → ⊥) → fin.get names name ≡ fin.get table.current name)
-          → TableKeeps claimed table (record table { nodes = fin.insert table.nodes k v; current = names })
-      put v names left = record {
-        sights = λ number sight is mine. sight_put table number k v ∙ other_number number k _ _ (not_mine number mine) ∙ is;
-        kept = λ number sight is mine other. kept_put table number k v ∙ other_number number k _ _ (unclaimed number mine);
-        current = left;
-      }
+    -- its look-ups are given back
+    pub TableKeeps-forgotten : (count : ℕ) (held : Bool) (node : Node) → TableKeeps claimed table (forgotten_at table k count held node)
+    TableKeeps-forgotten count held node = on_forgotten_at (TableKeeps claimed table) table k count held node
+        (λ every. TableKeeps-put (record node { lookups = 0 }) _ names_left)
+        (λ every. TableKeeps-taken _ names_left)
+        (λ fewer. TableKeeps-put (record node { lookups = node.lookups - count }) table.current (λ name unnamed owned. refl))
+      where
+        names_left : LeavesNames claimed table (without_current table.current node.name k)
+        names_left name unnamed mine = at (fin.get table.current node.name) refl
+          where
+            was : (b : Bool) (number : ℕ) → fin.get table.current node.name ≡ Some number → nat_eq k number ≡ b
+                → fin.get (if b then fin.remove table.current node.name else table.current) name ≡ fin.get table.current name
+            was true number is e =
+                let one : IsOwned claimed (key.Node number) = subst (λ m. IsOwned claimed (key.Node m)) ((Decides-eqb k number).0 e) owned in
+                get-remove_name table.current node.name name ∙ other_name name node.name _ _ (λ n. mine number (ap (fin.get table.current) n ∙ is) one)
+            was false number is e = refl
 
-      taken : (names : Names) → ((name : List ℕ) → (IsClaimed claimed (key.Name name) → ⊥) → ((number : ℕ) → fin.get table.current name ≡ Some number → IsOwned claimed (key.Node number) → ⊥) → fin.get names name ≡ fin.get table.current name)
-          → TableKeeps claimed table (record table { nodes = fin.remove table.nodes k; current = names })
-      taken names left = record {
-        sights = λ number sight is mine. sight_taken table number k ∙ other_number number k _ _ (not_mine number mine) ∙ is;
-        kept = λ number sight is mine other. kept_taken table number k ∙ other_number number k _ _ (unclaimed number mine);
-        current = left;
-      }
+            at : (found : Option ℕ) → fin.get table.current node.name ≡ found
+                → fin.get (if option_map_or (nat_eq k) found false then fin.remove table.current node.name else table.current) name ≡ fin.get table.current name
+            at None is = refl
+            at (Some number) is = was (nat_eq k number) number is refl
 
-      all : (stays : Bool) → TableKeeps claimed table (record table { nodes = if stays then fin.insert table.nodes k (record node { lookups = 0 }) else fin.remove table.nodes k; current = without_current table.current node.name k })
-      all true = put (record node { lookups = 0 }) _ (λ name unnamed. names_left name)
-      all false = taken _ (λ name unnamed. names_left name)
+    pub TableKeeps-given_back : (count : ℕ) (held : Bool) → TableKeeps claimed table (forgotten table k count held)
+    TableKeeps-given_back count held =
+        on_forgotten (TableKeeps claimed table) table k count held TableKeeps-same (λ node other there some. TableKeeps-forgotten count held node)
 
-      by : (every : Bool) → TableKeeps claimed table (if every
-          then record table { nodes = left_without table.nodes k held node; current = without_current table.current node.name k }
-          else with_inode table k (record node { lookups = node.lookups - count }))
-      by true = all (held && is_some node.file)
-      by false = put (record node { lookups = node.lookups - count }) table.current (λ name unnamed owned. refl)
+    -- no handle holds it any more
+    pub TableKeeps-let_go : TableKeeps claimed table (let_go table k)
+    TableKeeps-let_go =
+        on_let_go (TableKeeps claimed table) table k TableKeeps-same (λ node there idle. TableKeeps-taken table.current (λ name unnamed owned. refl))
 
 -- a change of the table alone
 pub Keeps-table : (claimed : List Claim) (mount : MountModel) (table : NodeTable) → TableKeeps claimed mount.table table → Keeps claimed mount (record mount { table = table })
@@ -214,4 +221,14 @@ Keeps-released claimed mount fh handle there owned = record {
       (λ same. mine (subst (λ (x : Opened). IsOwned claimed (key.Node x.node)) (same_Some (sym there ∙ ap (fin.get mount.handles) (sym same) ∙ found)) owned)) ∙ found;
   kept = λ number sight is mine named. refl;
   current = λ name mine owned. refl;
+}
+
+-- one change after another
+pub Keeps-then : (claimed : List Claim) (first second third : MountModel) → Keeps claimed first second → Keeps claimed second third → Keeps claimed first third
+Keeps-then claimed first second third one two = record {
+  sights = λ number sight is mine. two.sights number sight (one.sights number sight is mine) mine;
+  handles = λ fh handle is mine. two.handles fh handle (one.handles fh handle is mine) mine;
+  kept = λ number sight is mine named.
+      two.kept number sight (one.sights number sight is (λ owned. mine (claimed_by_owner claimed (key.Node number) owned))) mine named ∙ one.kept number sight is mine named;
+  current = λ name mine owned. two.current name mine (λ number is. owned number (sym (one.current name mine owned) ∙ is)) ∙ one.current name mine owned;
 }

@@ -1,12 +1,18 @@
 -- The laws of the requests and of runs, for the crates above.
 pub mod Asking
+pub mod Changes
 pub mod Children
+pub mod Contents
 pub mod Counting
 pub mod Guarding
 pub mod Keeping
+pub mod Memory
 pub mod Mounts
 pub mod Overlaps
+pub mod Pages
+pub mod ParentLaws
 pub mod Quiet
+pub mod Readings
 pub mod RequestLaws
 pub mod Requests
 pub mod RunLaws
@@ -14,3 +20,7 @@ pub mod ServingLaws
 pub mod Showings
 pub mod Sights
 pub mod Sound
+pub mod Sources
+pub mod Standing
+pub mod Stores
+pub mod Telling

@@ -3,16 +3,17 @@ use Rattle.std.proofs.Common.{◌≡◌, ◌≢◌, ◌<◌, ◌≤◌, ◌+◌,
 use Rattle.std.proofs.lemmas.Bool.{false≢true}
 use Rattle.std.proofs.lemmas.Bool.Decides.{Decides-eqb, nat_tests}
 use Rattle.std.proofs.lemmas.List.Elements.{All-nil}
-use Rattle.std.specs.Prelude.{if◌then◌else◌, ◌&&◌, ◌||◌, is_some}
+use Rattle.std.specs.Prelude.{if◌then◌else◌, ◌||◌}
 use Rattle.std.specs.Cmp.Lexicographic.{slice_cmp}
 use Rattle.std.specs.FinMap as fin
 use Rattle.std.specs.Option.{option_map_or}
 use Rattle.handle_table.specs.Handles.{Opened}
-use Rattle.inode_spec.specs.Inodes.{IsLiveUnder, forgotten_at, granted, is_live, left_without, root, with_inode, without_current}
+use Rattle.inode_spec.specs.Inodes.{IsLiveUnder, forgotten, forgotten_at, granted, is_live, let_go, root, with_inode, without_current}
 use Rattle.object_names.specs.Components.{IsComponent}
 use Rattle.object_names.specs.Paths.{IsPrefix}
 use Rattle.mount_rules.specs.Laws.{GivesLater}
 use Rattle.mount_rules.specs.Mount.{IsMount, IsNameOf, MountModel, Node, NodeTable, first_mount}
+use Rattle.mount_laws.proofs.Changes.{on_forgotten, on_forgotten_at, on_let_go, unnamed, without_node}
 use Rattle.mount_laws.proofs.Keeping.{no_Some, same_Some}
 use Rattle.spare_maps.proofs.FinMaps.{number_put, number_put_same, number_put_other, number_taken, number_taken_other, name_put, name_taken}
 
@@ -118,7 +119,9 @@ module _ (table : NodeTable) (is : IsNodeTable table) where
   -- look-ups of a node other than the root are given back
   pub TableLater-forgotten : (number count : ℕ) (held : Bool) (node : Node) → number ≢ 1 → fin.get table.nodes number ≡ Some node
       → TableLater table (forgotten_at table number count held node)
-  TableLater-forgotten number count held node other there = by (nat_le node.lookups count) refl
+  TableLater-forgotten number count held node other there = on_forgotten_at (TableLater table) table number count held node
+      (λ every. stays) (λ every. goes)
+      (λ fewer. TableLater-written number node (record node { lookups = node.lookups - count }) there refl refl (λ was. still fewer (nat_eq number 1)))
     where
       -- the names that are left have other nodes, as they had
       names_left : (q : List ℕ) (n : ℕ) → fin.get (without_current table.current node.name number) q ≡ Some n → (n ≢ number) × (fin.get table.current q ≡ Some n)
@@ -151,8 +154,8 @@ module _ (table : NodeTable) (is : IsNodeTable table) where
       put n x (inl (same, one)) = (is.nodes n node (ap (fin.get table.nodes) same ∙ there), subst (λ (y : Node). IsNameOf y.kind y.name) one (is.names number node there))
       put n x (inr was) = (is.nodes n x was, is.names n x was)
 
-      all : (stays : Bool) → TableLater table (record table { nodes = if stays then fin.insert table.nodes number (record node { lookups = 0 }) else fin.remove table.nodes number; current = without_current table.current node.name number })
-      all true = record {
+      stays : TableLater table (unnamed table number node (fin.insert table.nodes number (record node { lookups = 0 })))
+      stays = record {
         is = record {
           first = is.first;
           nodes = λ n x found. (put n x (number_put table.nodes number (record node { lookups = 0 }) x n found)).0;
@@ -161,7 +164,9 @@ module _ (table : NodeTable) (is : IsNodeTable table) where
         };
         rises = omega arith;
       }
-      all false = record {
+
+      goes : TableLater table (unnamed table number node (fin.remove table.nodes number))
+      goes = record {
         is = record {
           first = is.first;
           nodes = λ n x found. is.nodes n x (number_taken table.nodes number x n found).1;
@@ -175,11 +180,32 @@ module _ (table : NodeTable) (is : IsNodeTable table) where
       still more true = refl
       still more false = grind (arith, nat_tests, more)
 
-      by : (every : Bool) → nat_le node.lookups count ≡ every → TableLater table (if every
-          then record table { nodes = left_without table.nodes number held node; current = without_current table.current node.name number }
-          else with_inode table number (record node { lookups = node.lookups - count }))
-      by true e = all (held && is_some node.file)
-      by false e = TableLater-written number node (record node { lookups = node.lookups - count }) there refl refl (λ was. still e (nat_eq number 1))
+  pub TableLater-given_back : (number count : ℕ) (held : Bool) → TableLater table (forgotten table number count held)
+  TableLater-given_back number count held = on_forgotten (TableLater table) table number count held TableLater-same
+      (λ node other there some. TableLater-forgotten number count held node other there)
+
+  -- a node that isn't live goes with its last handle
+  pub TableLater-let_go : (number : ℕ) → TableLater table (let_go table number)
+  TableLater-let_go number = on_let_go (TableLater table) table number TableLater-same gone
+    where
+      gone : (node : Node) → fin.get table.nodes number ≡ Some node → is_live number node ≡ false → TableLater table (without_node table number)
+      gone node there idle = record {
+        is = record {
+          first = is.first;
+          nodes = λ n x found. is.nodes n x (number_taken table.nodes number x n found).1;
+          names = λ n x found. is.names n x (number_taken table.nodes number x n found).1;
+          current = λ q n found. stays q n (is.current q n found);
+        };
+        rises = omega arith;
+      }
+        where
+          stays : (q : List ℕ) (n : ℕ) → IsLiveUnder table q n → IsLiveUnder (record table { nodes = fin.remove table.nodes number }) q n
+          stays q n c = record { inode = c.inode; there = number_taken_other table.nodes number n other ∙ c.there; named = c.named; live = c.live }
+            where
+              other : n ≢ number
+              other same =
+                  let one : c.inode ≡ node = same_Some (sym c.there ∙ ap (fin.get table.nodes) same ∙ there) in
+                  false≢true (sym idle ∙ subst (λ m. is_live m node ≡ true) same (subst (λ (x : Node). is_live n x ≡ true) one c.live))
 
 -- ---- the mount around its table
 pub IsNodeTable-of : (mount : MountModel) → IsMount mount → IsNodeTable mount.table

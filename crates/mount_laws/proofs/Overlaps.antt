@@ -9,7 +9,7 @@ use Rattle.fuse_replies.specs.Errno.{eproto}
 use Rattle.fuse_requests.specs.declared.request.Request.{Request}
 use Rattle.fuse_requests.specs.declared.request.Request.TheVariants.{Init, Unknown}
 use Rattle.mount_model.specs.Observing.{Observed}
-use Rattle.mount_model.specs.declared.config.Config.{Config}
+use Rattle.mount_rules.specs.Rules.{AtTake}
 use Rattle.mount_rules.specs.Dispatch.{claims, goes_on, is_init, is_silent, mount_after, plan, rules_of, view_in}
 use Rattle.mount_rules.specs.Mount.{IsMount, MountModel, first_mount}
 use Rattle.mount_rules.specs.Overlap.{ApartFromAll, HappenFrom, MayHappen, OpenCall, OpenCallsSee, SeesAsTaken, Shared, Turn, after_done, after_turn, after_turns, at_once, done, others_than, take, tick}
@@ -30,74 +30,74 @@ quiet = λ answers. plans.done
 abbrev refusal_of : Request → View → Option ℕ
 refusal_of request view = (rules_of request).refusal view
 
-abbrev plan_by : Config → ℕ → Request → Bool → View → Step
-plan_by config second request on view = (if on then (rules_of request).plan (record { config = config; second = second; view = view }) else quiet) []
+abbrev plan_by : AtTake → Request → Bool → View → Step
+plan_by at request on view = (if on then (rules_of request).plan (record { at = at; view = view }) else quiet) []
 
 abbrev claims_by : Request → Bool → View → List Claim
 claims_by request on view = if on then (rules_of request).claims view else []
 
 -- before a version is agreed on, no request asks anything
-no_plan : (config : Config) (second : ℕ) (mount : MountModel) (request : Request) → mount.negotiated ≡ false → plan config second mount request [] ≡ plans.done
-no_plan config second mount request off = ap (λ b. plan_by config second request b (view_in mount request)) (ap (λ b. goes_with b request (refusal_of request (view_in mount request))) off) ∙ by request
+no_plan : (at : AtTake) (mount : MountModel) (request : Request) → mount.negotiated ≡ false → plan at mount request [] ≡ plans.done
+no_plan at mount request off = ap (λ b. plan_by at request b (view_in mount request)) (ap (λ b. goes_with b request (refusal_of request (view_in mount request))) off) ∙ by request
   where
     both : (on : Bool) → (if on then quiet else quiet) [] ≡ plans.done
     both true = refl
     both false = refl
 
-    by : (r : Request) → plan_by config second r (goes_with false r (refusal_of r (view_in mount request))) (view_in mount request) ≡ plans.done
+    by : (r : Request) → plan_by at r (goes_with false r (refusal_of r (view_in mount request))) (view_in mount request) ≡ plans.done
     by (Init major minor readahead flags) = both (goes_with false (Init major minor readahead flags) (refusal_of (Init major minor readahead flags) (view_in mount request)))
     by (Unknown opcode) = both (goes_with false (Unknown opcode) (refusal_of (Unknown opcode) (view_in mount request)))
     by _ = refl
 
-agreed_by : (config : Config) (second : ℕ) (mount : MountModel) (request : Request) → plan config second mount request [] ≢ plans.done → mount.negotiated ≡ true
-agreed_by config second mount request asks = by mount.negotiated refl
+agreed_by : (at : AtTake) (mount : MountModel) (request : Request) → plan at mount request [] ≢ plans.done → mount.negotiated ≡ true
+agreed_by at mount request asks = by mount.negotiated refl
   where
     by : (agreed : Bool) → mount.negotiated ≡ agreed → agreed ≡ true
     by true is = refl
-    by false is = absurd (asks (no_plan config second mount request is))
+    by false is = absurd (asks (no_plan at mount request is))
 
 -- ---- one call under way
-record IsGoing (config : Config) (mount : MountModel) (o : OpenCall) : Type 0 where
-  sees : SeesAsTaken config mount o
-  asks : plan config o.second mount o.request [] ≢ plans.done
+record IsGoing (mount : MountModel) (o : OpenCall) : Type 0 where
+  sees : SeesAsTaken mount o
+  asks : plan o.at mount o.request [] ≢ plans.done
 
 -- another call that is done, and whose claims don't conflict, leaves it so
-IsGoing-after : (config : Config) (mount : MountModel) (o : OpenCall) → IsMount mount → IsGoing config mount o
-    → (second : ℕ) (request : Request) (seen : List Observed) → AreApart o.claimed (claims mount request) → IsGoing config (mount_after config second mount request seen) o
-IsGoing-after config mount o is going second request seen apart = record {
+IsGoing-after : (mount : MountModel) (o : OpenCall) → IsMount mount → IsGoing mount o
+    → (at : AtTake) (request : Request) (seen : List Observed) → AreApart o.claimed (claims mount request) → IsGoing (mount_after at mount request seen) o
+IsGoing-after mount o is going at request seen apart = record {
   sees = record { view = same ∙ going.sees.view; goes = goes ∙ going.sees.goes; claimed = same_claims ∙ going.sees.claimed };
   asks = λ none. going.asks (sym same_plan ∙ none);
 }
   where
     after : MountModel
-    after = mount_after config second mount request seen
+    after = mount_after at mount request seen
 
-    same : view_in (mount_after config second mount request seen) o.request ≡ view_in mount o.request
-    same = claims_protect config second o.second mount o.request request seen is going.asks (subst (λ c. AreApart c (claims mount request)) (sym going.sees.claimed) apart)
+    same : view_in (mount_after at mount request seen) o.request ≡ view_in mount o.request
+    same = claims_protect o.at at mount o.request request seen is going.asks (subst (λ c. AreApart c (claims mount request)) (sym going.sees.claimed) apart)
 
     before_agreed : mount.negotiated ≡ true
-    before_agreed = agreed_by config o.second mount o.request going.asks
+    before_agreed = agreed_by o.at mount o.request going.asks
 
-    goes : goes_on (mount_after config second mount request seen) o.request ≡ goes_on mount o.request
-    goes = ap (λ b. goes_with b o.request (refusal_of o.request (view_in (mount_after config second mount request seen) o.request)))
-        (agreement_stays config second mount request seen before_agreed ∙ sym before_agreed)
+    goes : goes_on (mount_after at mount request seen) o.request ≡ goes_on mount o.request
+    goes = ap (λ b. goes_with b o.request (refusal_of o.request (view_in (mount_after at mount request seen) o.request)))
+        (agreement_stays at mount request seen before_agreed ∙ sym before_agreed)
         ∙ ap (λ v. goes_with mount.negotiated o.request (refusal_of o.request v)) same
 
-    same_claims : claims (mount_after config second mount request seen) o.request ≡ claims mount o.request
-    same_claims = ap (λ b. claims_by o.request b (view_in (mount_after config second mount request seen) o.request)) goes ∙ ap (claims_by o.request (goes_on mount o.request)) same
+    same_claims : claims (mount_after at mount request seen) o.request ≡ claims mount o.request
+    same_claims = ap (λ b. claims_by o.request b (view_in (mount_after at mount request seen) o.request)) goes ∙ ap (claims_by o.request (goes_on mount o.request)) same
 
-    same_plan : plan config o.second (mount_after config second mount request seen) o.request [] ≡ plan config o.second mount o.request []
-    same_plan = ap (λ b. plan_by config o.second o.request b (view_in (mount_after config second mount request seen) o.request)) goes
-        ∙ ap (plan_by config o.second o.request (goes_on mount o.request)) same
+    same_plan : plan o.at (mount_after at mount request seen) o.request [] ≡ plan o.at mount o.request []
+    same_plan = ap (λ b. plan_by o.at o.request b (view_in (mount_after at mount request seen) o.request)) goes
+        ∙ ap (plan_by o.at o.request (goes_on mount o.request)) same
 
 -- ---- all calls under way
 abbrev AllApart : List OpenCall → Type 0
 AllApart [] = Unit {0}
 AllApart (o ∷ more) = ApartFromAll o.claimed more × AllApart more
 
-record IsUnderWay (config : Config) (shared : Shared) : Type 0 where
+record IsUnderWay (shared : Shared) : Type 0 where
   is : IsMount shared.mount
-  each : AllByRecursion (IsGoing config shared.mount) shared.open_calls
+  each : AllByRecursion (IsGoing shared.mount) shared.open_calls
   apart : AllApart shared.open_calls
 
 -- what holds of all holds of all but one
@@ -127,52 +127,52 @@ apart_from_others (suc place) (p ∷ os) o is apart =
     (AreApart-swap p.claimed o.claimed (at_place (λ (q : OpenCall). AreApart p.claimed q.claimed) place os o is apart.0), apart_from_others place os o is apart.1)
 
 -- a call that is done leaves all that are apart from it
-all_going : (config : Config) (mount : MountModel) → IsMount mount → (second : ℕ) (request : Request) (seen : List Observed) (os : List OpenCall)
-    → ApartFromAll (claims mount request) os → AllByRecursion (IsGoing config mount) os → AllByRecursion (IsGoing config (mount_after config second mount request seen)) os
-all_going config mount is second request seen [] apart going = tt
-all_going config mount is second request seen (o ∷ os) apart going = (
-  IsGoing-after config mount o is going.0 second request seen (AreApart-swap (claims mount request) o.claimed apart.0),
-  all_going config mount is second request seen os apart.1 going.1,
+all_going : (mount : MountModel) → IsMount mount → (at : AtTake) (request : Request) (seen : List Observed) (os : List OpenCall)
+    → ApartFromAll (claims mount request) os → AllByRecursion (IsGoing mount) os → AllByRecursion (IsGoing (mount_after at mount request seen)) os
+all_going mount is at request seen [] apart going = tt
+all_going mount is at request seen (o ∷ os) apart going = (
+  IsGoing-after mount o is going.0 at request seen (AreApart-swap (claims mount request) o.claimed apart.0),
+  all_going mount is at request seen os apart.1 going.1,
 )
 
-IsUnderWay-turn : (config : Config) (shared : Shared) (turn : Turn) → IsUnderWay config shared → MayHappen config shared turn → IsUnderWay config (after_turn config shared turn)
-IsUnderWay-turn config shared (take second request) way may = record {
+IsUnderWay-turn : (shared : Shared) (turn : Turn) → IsUnderWay shared → MayHappen shared turn → IsUnderWay (after_turn shared turn)
+IsUnderWay-turn shared (take at request) way may = record {
   is = way.is;
   each = (record { sees = record { view = refl; goes = goes_by (goes_on shared.mount request) refl may.0; claimed = refl }; asks = may.0 }, way.each);
   apart = (may.1, way.apart);
 }
   where
-    goes_by : (on : Bool) → goes_on shared.mount request ≡ on → (plan_by config second request on (view_in shared.mount request) ≢ plans.done) → on ≡ true
+    goes_by : (on : Bool) → goes_on shared.mount request ≡ on → (plan_by at request on (view_in shared.mount request) ≢ plans.done) → on ≡ true
     goes_by true is asks = refl
     goes_by false is asks = absurd (asks refl)
-IsUnderWay-turn config shared (done place seen) way (o, there) =
-    subst (λ (found : Option OpenCall). IsUnderWay config (after_done config shared place seen found)) (sym there) (record {
-      is = stays_mount config o.second shared.mount o.request seen way.is;
-      each = all_going config shared.mount way.is o.second o.request seen (others_than place shared.open_calls)
+IsUnderWay-turn shared (done place seen) way (o, there) =
+    subst (λ (found : Option OpenCall). IsUnderWay (after_done shared place seen found)) (sym there) (record {
+      is = stays_mount o.at shared.mount o.request seen way.is;
+      each = all_going shared.mount way.is o.at o.request seen (others_than place shared.open_calls)
           (subst (λ c. ApartFromAll c (others_than place shared.open_calls)) (sym going.sees.claimed) (apart_from_others place shared.open_calls o there way.apart))
-          (all_but (IsGoing config shared.mount) place shared.open_calls way.each);
+          (all_but (IsGoing shared.mount) place shared.open_calls way.each);
       apart = apart_but place shared.open_calls way.apart;
     })
   where
-    going : IsGoing config shared.mount o
-    going = at_place (IsGoing config shared.mount) place shared.open_calls o there way.each
-IsUnderWay-turn config shared (at_once second request) way may = record {
-  is = stays_mount config second shared.mount request [] way.is;
-  each = all_going config shared.mount way.is second request [] shared.open_calls may way.each;
+    going : IsGoing shared.mount o
+    going = at_place (IsGoing shared.mount) place shared.open_calls o there way.each
+IsUnderWay-turn shared (at_once at request) way may = record {
+  is = stays_mount at shared.mount request [] way.is;
+  each = all_going shared.mount way.is at request [] shared.open_calls may way.each;
   apart = way.apart;
 }
-IsUnderWay-turn config shared (tick seconds) way may = way
+IsUnderWay-turn shared (tick seconds) way may = way
 
-IsUnderWay-turns : (config : Config) (shared : Shared) (turns : List Turn) → IsUnderWay config shared → HappenFrom config shared turns → IsUnderWay config (after_turns config shared turns)
-IsUnderWay-turns config shared [] way happen = way
-IsUnderWay-turns config shared (turn ∷ turns) way happen =
-    IsUnderWay-turns config (after_turn config shared turn) turns (IsUnderWay-turn config shared turn way happen.0) happen.1
+IsUnderWay-turns : (shared : Shared) (turns : List Turn) → IsUnderWay shared → HappenFrom shared turns → IsUnderWay (after_turns shared turns)
+IsUnderWay-turns shared [] way happen = way
+IsUnderWay-turns shared (turn ∷ turns) way happen =
+    IsUnderWay-turns (after_turn shared turn) turns (IsUnderWay-turn shared turn way happen.0) happen.1
 
-all_see : (config : Config) (mount : MountModel) (os : List OpenCall) → AllByRecursion (IsGoing config mount) os → AllByRecursion (SeesAsTaken config mount) os
-all_see config mount [] going = tt
-all_see config mount (o ∷ os) going = (going.0.sees, all_see config mount os going.1)
+all_see : (mount : MountModel) (os : List OpenCall) → AllByRecursion (IsGoing mount) os → AllByRecursion (SeesAsTaken mount) os
+all_see mount [] going = tt
+all_see mount (o ∷ os) going = (going.0.sees, all_see mount os going.1)
 
 pub open_calls_see : OpenCallsSee
-open_calls_see config turns happen =
-    let way = IsUnderWay-turns config (record { mount = first_mount; open_calls = [] }) turns (record { is = IsMount-first; each = tt; apart = tt }) happen in
-    all_see config _ _ way.each
+open_calls_see turns happen =
+    let way = IsUnderWay-turns (record { mount = first_mount; open_calls = [] }) turns (record { is = IsMount-first; each = tt; apart = tt }) happen in
+    all_see _ _ way.each

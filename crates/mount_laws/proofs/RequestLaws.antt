@@ -1,44 +1,44 @@
 -- Every request's rules are sound, one line each; and the laws over all requests that follow.
 use Rattle.std.proofs.Common.{◌≡◌, ◌≢◌, ◌+◌, ◌-◌, ℕ, Bool, true, false, List, [], Option, Some, None, refl, sym, ap, ◌∙◌, arith, ◌≤◌, length}
 use Rattle.std.proofs.lemmas.Bool.{false≢true}
-use Rattle.std.specs.Prelude.{if◌then◌else◌, not, ◌&&◌, ◌==◌, is_some}
+use Rattle.std.specs.Prelude.{if◌then◌else◌, not, ◌&&◌, is_some}
 use Rattle.std.specs.List.{AllByRecursion}
 use Rattle.std.specs.Option.{option_map_or}
 use Rattle.claim_spec.specs.Conflicts.{AreApart}
 use Rattle.fuse_replies.specs.declared.reply.Reply.{Reply}
 use Rattle.fuse_replies.specs.declared.reply.Reply.TheVariants.{Error, Silent}
 use Rattle.fuse_requests.specs.declared.request.Request.{Request}
-use Rattle.fuse_requests.specs.declared.request.Request.TheVariants.{Lookup, Forget, BatchForget, Interrupt, Init, Statfs, Opendir, Readdir, Releasedir, Fsyncdir, Create, Destroy, Unknown}
+use Rattle.fuse_requests.specs.declared.request.Request.TheVariants.{Lookup, Forget, Getattr, BatchForget, Interrupt, Init, Opening, Read, Statfs, Opendir, Readdir, Releasedir, Fsyncdir, Create, Destroy, Unknown}
 use Rattle.inode_spec.specs.Inodes.{lookups_of}
-use Rattle.mount_model.specs.declared.config.Config.{Config}
 use Rattle.mount_rules.specs.Dispatch.{early, goes_on, is_among, is_idle, is_init, is_silent, mount_after, plan, claims, reply_to, rules_of, served_opcodes, silent_opcodes, taken_at, unread, view_in, wants}
 use Rattle.fuse_replies.specs.Errno.{einval, enomem, enosys, eproto}
-use Rattle.mount_rules.specs.Laws.{AsksAtMost, ClaimsCover, ClaimsProtect, GivesLater, HarmlessWhileAsking, IsCovered, Keeps, LeavesOthers, NeverOutOfMemory, Planned, StaysMount, given, given_back, most_asked}
+use Rattle.mount_rules.specs.Laws.{AsksAtMost, ClaimsCover, ClaimsProtect, GivesLater, HarmlessWhileAsking, IsCovered, IsOfFile, Keeps, LeavesOthers, MayReadWanted, NeverOutOfMemory, Planned, StaysMount, WantsOfFiles, back_by, given, given_back, most_asked}
 use Rattle.mount_rules.specs.Mount.{IsMount, MountModel}
 use Rattle.mount_model.specs.Observing.{Observed}
-use Rattle.mount_rules.specs.Plans.{Allows, IsHarmless, Plan, Source, answers_of, done}
-use Rattle.mount_rules.specs.Rules.{Taken}
+use Rattle.mount_rules.specs.Plans.{Allows, IsHarmless, Plan, Source, Step, Wanted, answers_of, done, may_read}
+use Rattle.mount_rules.specs.Rules.{AtTake, Taken}
 use Rattle.mount_laws.proofs.Asking.{asks_none}
-use Rattle.mount_laws.proofs.Guarding.{errors_differ}
 use Rattle.mount_laws.proofs.Keeping.{Keeps-same, no_Some}
+use Rattle.mount_laws.proofs.Memory.{errors_differ, no_error}
 use Rattle.mount_laws.proofs.Mounts.{GivesLater-same}
+use Rattle.mount_laws.proofs.Requests.BatchForget.{batch_forget_sound}
 use Rattle.mount_laws.proofs.Requests.Create.{create_sound}
 use Rattle.mount_laws.proofs.Requests.Forget.{forget_sound}
 use Rattle.mount_laws.proofs.Requests.Fsyncdir.{fsyncdir_sound}
+use Rattle.mount_laws.proofs.Requests.Getattr.{getattr_sound}
 use Rattle.mount_laws.proofs.Requests.Init.{init_sound}
 use Rattle.mount_laws.proofs.Requests.Lookup.{lookup_sound}
+use Rattle.mount_laws.proofs.Requests.Open.{open_sound}
 use Rattle.mount_laws.proofs.Requests.Opendir.{opendir_sound}
+use Rattle.mount_laws.proofs.Requests.Read.{read_sound}
 use Rattle.mount_laws.proofs.Requests.Readdir.{readdir_sound}
 use Rattle.mount_laws.proofs.Requests.Releasedir.{releasedir_sound}
 use Rattle.mount_laws.proofs.Requests.Statfs.{destroy_sound, statfs_sound}
 use Rattle.mount_laws.proofs.Requests.Unserved.{unserved_sound}
 use Rattle.mount_laws.proofs.Sights.{view_stays}
 use Rattle.mount_laws.proofs.Sound.{GoesOn, IsSound}
-
--- the look-ups of a node that a request gives back
-abbrev pub back_by : Request → ℕ → ℕ
-back_by (Forget node count) number = if number == node then count else 0
-back_by _ number = 0
+use Rattle.mount_laws.proofs.Sources.{HandlesFrom, HandlesFrom-table, NodesFrom, NodesFrom-same}
+use Rattle.mount_laws.proofs.Telling.{TellsAlong}
 
 unread-other : (opcode : ℕ) → unread opcode ≢ Some enomem
 unread-other opcode = by (is_among silent_opcodes opcode) (is_among served_opcodes opcode)
@@ -51,12 +51,13 @@ unread-other opcode = by (is_among silent_opcodes opcode) (is_among served_opcod
 not_served : Some enosys ≢ Some enomem
 not_served e = errors_differ (λ same. absurd (omega (arith, same))) e
 
-no_error : None ≢ Some enomem
-no_error e = cc
-
 pub sound : (request : Request) → IsSound (rules_of request) (back_by request) (most_asked request)
 sound (Lookup node name) = lookup_sound node name
 sound (Forget node count) = forget_sound node count
+sound (BatchForget pairs) = batch_forget_sound pairs.items
+sound (Getattr node) = getattr_sound node
+sound (Opening node flags) = open_sound node
+sound (Read node fh first size) = read_sound node fh first size
 sound Statfs = statfs_sound
 sound (Init major minor readahead flags) = init_sound major minor readahead flags
 sound (Opendir node) = opendir_sound node
@@ -66,13 +67,12 @@ sound (Fsyncdir node fh) = fsyncdir_sound node fh
 sound (Create node name) = create_sound node name
 sound Destroy = destroy_sound
 sound Interrupt = unserved_sound None no_error
-sound (BatchForget pairs) = unserved_sound None no_error
 sound (Unknown opcode) = unserved_sound (unread opcode) (unread-other opcode)
 sound _ = unserved_sound (Some enosys) not_served
 
 -- ---- the dispatcher
 -- a request goes on where its own rules refuse nothing
-goes : (mount : MountModel) (request : Request) → IsMount mount → goes_on mount request ≡ true → GoesOn (rules_of request) mount
+pub goes : (mount : MountModel) (request : Request) → IsMount mount → goes_on mount request ≡ true → GoesOn (rules_of request) mount
 goes mount request is on = record { is = is; free = free }
   where
     none : (idle : Bool) (errno : Option ℕ) → (not idle && not (is_some errno)) ≡ true → errno ≡ None
@@ -87,80 +87,114 @@ goes mount request is on = record { is = is; free = free }
     free : (rules_of request).refusal (view_in mount request) ≡ None
     free = inner (not mount.negotiated && not (is_silent request) && not (is_init request)) _ (none (is_idle mount request) (early mount request) on)
 
-module _ (config : Config) (second : ℕ) (mount : MountModel) (request : Request) (seen : List Observed) (is : IsMount mount) where
+module _ (at : AtTake) (mount : MountModel) (request : Request) (seen : List Observed) (is : IsMount mount) where
   abbrev after : MountModel
-  after = (rules_of request).after (taken_at config second mount request) mount seen
+  after = (rules_of request).after (taken_at at mount request) mount seen
 
-  pub later : GivesLater mount (mount_after config second mount request seen)
+  pub later : GivesLater mount (mount_after at mount request seen)
   later = by (goes_on mount request) refl
     where
       by : (on : Bool) → goes_on mount request ≡ on → GivesLater mount (if on then after else mount)
-      by true e = (sound request).later config second mount seen (goes mount request is e)
+      by true e = (sound request).later at mount seen (goes mount request is e)
       by false e = GivesLater-same mount is
 
-  pub leaves : Keeps (claims mount request) mount (mount_after config second mount request seen)
+  pub leaves : Keeps (claims mount request) mount (mount_after at mount request seen)
   leaves = by (goes_on mount request) refl
     where
       by : (on : Bool) → goes_on mount request ≡ on → Keeps (if on then (rules_of request).claims (view_in mount request) else []) mount (if on then after else mount)
-      by true e = (sound request).leaves config second mount seen (goes mount request is e)
+      by true e = (sound request).leaves at mount seen (goes mount request is e)
       by false e = Keeps-same [] mount
 
 -- an agreement on a version stays
-pub agreement_stays : (config : Config) (second : ℕ) (mount : MountModel) (request : Request) (seen : List Observed) → mount.negotiated ≡ true
-    → (mount_after config second mount request seen).negotiated ≡ true
-agreement_stays config second mount request seen agreed = by (goes_on mount request)
+pub agreement_stays : (at : AtTake) (mount : MountModel) (request : Request) (seen : List Observed) → mount.negotiated ≡ true
+    → (mount_after at mount request seen).negotiated ≡ true
+agreement_stays at mount request seen agreed = by (goes_on mount request)
   where
-    by : (on : Bool) → (if on then (rules_of request).after (taken_at config second mount request) mount seen else mount).negotiated ≡ true
-    by true = (sound request).agrees (taken_at config second mount request) mount seen agreed
+    by : (on : Bool) → (if on then (rules_of request).after (taken_at at mount request) mount seen else mount).negotiated ≡ true
+    by true = (sound request).agrees (taken_at at mount request) mount seen agreed
     by false = agreed
 
 pub stays_mount : StaysMount
-stays_mount config second mount request seen is = (later config second mount request seen is).is
+stays_mount at mount request seen is = (later at mount request seen is).is
 
 pub leaves_others : LeavesOthers
-leaves_others config second mount request seen is = leaves config second mount request seen is
+leaves_others at mount request seen is = leaves at mount request seen is
 
 -- the law of claims
 pub claims_protect : ClaimsProtect
-claims_protect config second mine mount request other seen is asks apart = by (goes_on mount request) refl asks apart
+claims_protect mine at mount request other seen is asks apart = by (goes_on mount request) refl asks apart
   where
     by : (on : Bool) → goes_on mount request ≡ on
-        → ((if on then (rules_of request).plan (taken_at config mine mount request) else (λ answers. done)) [] ≢ done)
+        → ((if on then (rules_of request).plan (taken_at mine mount request) else (λ answers. done)) [] ≢ done)
         → AreApart (if on then (rules_of request).claims (view_in mount request) else []) (claims mount other)
-        → view_in (mount_after config second mount other seen) request ≡ view_in mount request
+        → view_in (mount_after at mount other seen) request ≡ view_in mount request
     by true e asks apart =
-        view_stays ((rules_of request).claims (view_in mount request)) (claims mount other) mount (mount_after config second mount other seen) apart
-        (leaves config second mount other seen is) (rules_of request).looks
-        ((sound request).sees config mine mount (goes mount request is e) asks)
+        view_stays ((rules_of request).claims (view_in mount request)) (claims mount other) mount (mount_after at mount other seen) apart
+        (leaves at mount other seen is) (rules_of request).looks
+        ((sound request).sees mine mount (goes mount request is e) asks)
     by false e asks apart = absurd (asks refl)
 
 pub claims_cover : ClaimsCover
-claims_cover config second mount request seen op allows = by (goes_on mount request) allows
+claims_cover at mount request seen op allows = by (goes_on mount request) allows
   where
-    by : (on : Bool) → Allows ((if on then (rules_of request).plan (taken_at config second mount request) else (λ answers. done)) (answers_of seen)) op
+    by : (on : Bool) → Allows ((if on then (rules_of request).plan (taken_at at mount request) else (λ answers. done)) (answers_of seen)) op
         → IsCovered (if on then (rules_of request).claims (view_in mount request) else []) op
-    by true allows = (sound request).covers (taken_at config second mount request) (answers_of seen) op allows
+    by true allows = (sound request).covers (taken_at at mount request) (answers_of seen) op allows
     by false allows = absurd allows
 
 pub harmless_while_asking : HarmlessWhileAsking
-harmless_while_asking config second mount request seen = by (goes_on mount request)
+harmless_while_asking at mount request seen = by (goes_on mount request)
   where
-    by : (on : Bool) → Planned (if on then (rules_of request).plan (taken_at config second mount request) else (λ answers. done)) seen
-        → ((if on then (rules_of request).plan (taken_at config second mount request) else (λ answers. done)) (answers_of seen) ≢ done)
+    by : (on : Bool) → Planned (if on then (rules_of request).plan (taken_at at mount request) else (λ answers. done)) seen
+        → ((if on then (rules_of request).plan (taken_at at mount request) else (λ answers. done)) (answers_of seen) ≢ done)
         → AllByRecursion (λ (o : Observed). IsHarmless o.op) seen
-    by true planned asks = (sound request).harmless (taken_at config second mount request) seen planned asks
+    by true planned asks = (sound request).harmless (taken_at at mount request) seen planned asks
     by false planned asks = absurd (asks refl)
 
 pub asks_at_most : AsksAtMost
-asks_at_most config second mount request seen most is = by (goes_on mount request)
+asks_at_most at mount request seen most is = by (goes_on mount request)
   where
-    by : (on : Bool) → Planned (if on then (rules_of request).plan (taken_at config second mount request) else (λ answers. done)) seen → length seen ≤ most
-    by true planned = (sound request).bounded (taken_at config second mount request) seen most is planned
+    by : (on : Bool) → Planned (if on then (rules_of request).plan (taken_at at mount request) else (λ answers. done)) seen → length seen ≤ most
+    by true planned = (sound request).bounded (taken_at at mount request) seen most is planned
     by false planned = let few : length seen ≤ 0 = asks_none (λ answers. done) refl seen planned in omega (arith, few)
 
+-- ---- what is wanted of sources
+pub may_read_wanted : MayReadWanted
+may_read_wanted at mount request wanted = by (goes_on mount request)
+  where
+    by : (on : Bool) → (if on then (rules_of request).wants (view_in mount request) else None) ≡ Some wanted
+        → (source : Source) × (next : Step) × ((if on then (rules_of request).plan (taken_at at mount request) else (λ answers. done)) [] ≡ may_read source next)
+    by true wants_it = (sound request).reads (taken_at at mount request) wanted wants_it
+    by false wants_it = absurd (no_Some wants_it)
+
+pub wants_of_files : WantsOfFiles
+wants_of_files mount request wanted = by (goes_on mount request)
+  where
+    by : (on : Bool) → (if on then (rules_of request).wants (view_in mount request) else None) ≡ Some wanted → IsOfFile mount wanted
+    by true wants_it = (sound request).of_files mount wanted wants_it
+    by false wants_it = absurd (no_Some wants_it)
+
+-- ---- where nodes and open files come from
+pub nodes_from : (Shown : List ℕ → ℕ → ℕ → Type 0) (at : AtTake) (mount : MountModel) (request : Request) (seen : List Observed) → IsMount mount
+    → TellsAlong Shown (plan at mount request) seen → NodesFrom Shown mount.table (mount_after at mount request seen).table
+nodes_from Shown at mount request seen is = by (goes_on mount request) refl
+  where
+    by : (on : Bool) → goes_on mount request ≡ on → TellsAlong Shown (if on then (rules_of request).plan (taken_at at mount request) else (λ answers. done)) seen
+        → NodesFrom Shown mount.table (if on then (rules_of request).after (taken_at at mount request) mount seen else mount).table
+    by true e tells = (sound request).nodes Shown at mount seen (goes mount request is e) tells
+    by false e tells = NodesFrom-same Shown mount.table
+
+pub handles_from : (at : AtTake) (mount : MountModel) (request : Request) (seen : List Observed) → IsMount mount → HandlesFrom mount (mount_after at mount request seen)
+handles_from at mount request seen is = by (goes_on mount request) refl
+  where
+    by : (on : Bool) → goes_on mount request ≡ on → HandlesFrom mount (if on then (rules_of request).after (taken_at at mount request) mount seen else mount)
+    by true e = (sound request).handles at mount seen (goes mount request is e)
+    by false e = HandlesFrom-table mount mount.table
+
+-- ---- replies
 -- no request that is performed to its end is answered ENOMEM
 pub never_out_of_memory : NeverOutOfMemory
-never_out_of_memory config second mount request seen = by (is_idle mount request) (early mount request) refl
+never_out_of_memory at mount request seen = by (is_idle mount request) (early mount request) refl
   where
     silent : Silent ≡ Error enomem → ⊥
     silent e = cc
@@ -170,39 +204,48 @@ never_out_of_memory config second mount request seen = by (is_idle mount request
     refused false errno e same = (sound request).refuses (view_in mount request) (e ∙ ap Some same)
 
     by : (idle : Bool) (errno : Option ℕ) → early mount request ≡ errno
-        → (if idle then Silent else option_map_or Error errno ((rules_of request).reply (taken_at config second mount request) mount seen)) ≡ Error enomem → ⊥
+        → (if idle then Silent else option_map_or Error errno ((rules_of request).reply (taken_at at mount request) mount seen)) ≡ Error enomem → ⊥
     by true errno is e = silent e
-    by false None is e = (sound request).answers (taken_at config second mount request) mount seen e
+    by false None is e = (sound request).answers (taken_at at mount request) mount seen e
     by false (Some errno) is e = refused (not mount.negotiated && not (is_silent request) && not (is_init request)) errno is (let one : errno ≡ enomem = cc in one)
 
 -- ---- counts of look-ups
 -- where a request goes on, the look-ups that it gives back are those of its rules
+same_either : {X : Type 0} (b : Bool) (x : X) → (if b then x else x) ≡ x
+same_either true x = refl
+same_either false x = refl
+
+-- a request that gets no reply goes on exactly where a version is agreed on
+silent_goes : (agreed : Bool) → (not (not agreed) && not (is_some (if not agreed && not true && not false then Some eproto else None))) ≡ agreed
+silent_goes true = refl
+silent_goes false = refl
+
+given_where : (agreed : Bool) (count other : ℕ) → agreed ≡ true → (if agreed then count else other) ≡ count
+given_where true count other e = refl
+given_where false count other e = absurd (false≢true e)
+
+none_where : (agreed : Bool) (count other : ℕ) → agreed ≡ false → (if agreed then count else other) ≡ other
+none_where true count other e = absurd (false≢true (sym e))
+none_where false count other e = refl
+
 back_on : (mount : MountModel) (request : Request) (number : ℕ) → goes_on mount request ≡ true → given_back mount request number ≡ back_by request number
-back_on mount (Forget node count) number on = by mount.negotiated on
-  where
-    by : (agreed : Bool) → (not (not agreed) && not (is_some (if not agreed && not true && not false then Some eproto else None))) ≡ true
-        → (if agreed then (if number == node then count else 0) else 0) ≡ (if number == node then count else 0)
-    by true e = refl
-    by false e = absurd (false≢true e)
-back_on mount _ number on = refl
+back_on mount (Forget node count) number on = given_where mount.negotiated (back_by (Forget node count) number) 0 (sym (silent_goes mount.negotiated) ∙ on)
+back_on mount (BatchForget pairs) number on = given_where mount.negotiated (back_by (BatchForget pairs) number) 0 (sym (silent_goes mount.negotiated) ∙ on)
+back_on mount _ number on = same_either mount.negotiated 0
 
 -- where it doesn't, there are none
 back_off : (mount : MountModel) (request : Request) (number : ℕ) → goes_on mount request ≡ false → given_back mount request number ≡ 0
-back_off mount (Forget node count) number off = by mount.negotiated off
-  where
-    by : (agreed : Bool) → (not (not agreed) && not (is_some (if not agreed && not true && not false then Some eproto else None))) ≡ false
-        → (if agreed then (if number == node then count else 0) else 0) ≡ 0
-    by true e = absurd (false≢true (sym e))
-    by false e = refl
-back_off mount _ number off = refl
+back_off mount (Forget node count) number off = none_where mount.negotiated (back_by (Forget node count) number) 0 (sym (silent_goes mount.negotiated) ∙ off)
+back_off mount (BatchForget pairs) number off = none_where mount.negotiated (back_by (BatchForget pairs) number) 0 (sym (silent_goes mount.negotiated) ∙ off)
+back_off mount _ number off = same_either mount.negotiated 0
 
-pub counts : (config : Config) (second : ℕ) (mount : MountModel) (request : Request) (seen : List Observed) (number : ℕ) → IsMount mount → number ≢ 1
-    → lookups_of (mount_after config second mount request seen).table number
-    ≡ (lookups_of mount.table number + given (reply_to config second mount request seen) number) - given_back mount request number
-counts config second mount request seen number is other = by (is_idle mount request) (early mount request) refl refl
+pub counts : (at : AtTake) (mount : MountModel) (request : Request) (seen : List Observed) (number : ℕ) → IsMount mount → number ≢ 1
+    → lookups_of (mount_after at mount request seen).table number
+    ≡ (lookups_of mount.table number + given (reply_to at mount request seen) number) - given_back mount request number
+counts at mount request seen number is other = by (is_idle mount request) (early mount request) refl refl
   where
     taken : Taken
-    taken = taken_at config second mount request
+    taken = taken_at at mount request
 
     stays : (reply : Reply) → given reply number ≡ 0 → given_back mount request number ≡ 0
         → lookups_of mount.table number ≡ (lookups_of mount.table number + given reply number) - given_back mount request number
@@ -219,25 +262,19 @@ counts config second mount request seen number is other = by (is_idle mount requ
     by false None i e =
         let on = goes_by false None i e in
         let same = back_on mount request number on in
-        let one = (sound request).counts config second mount seen number other (goes mount request is on) in
+        let one = (sound request).counts at mount seen number other (goes mount request is on) in
         one ∙ ap (λ n. (lookups_of mount.table number + given ((rules_of request).reply taken mount seen) number) - n) (sym same)
 
 -- a request that asks something, or wants a byte of a source, gives nothing back
-pub back_asks : (config : Config) (second : ℕ) (mount : MountModel) (request : Request) (number : ℕ) → plan config second mount request [] ≢ done → given_back mount request number ≡ 0
-back_asks config second mount (Forget node count) number asks = by (goes_on mount (Forget node count)) asks
-  where
-    quiet : Plan
-    quiet = λ answers. done
+abbrev quiet : Plan
+quiet = λ answers. done
 
-    by : (on : Bool) → ((if on then quiet else quiet) [] ≢ done) → given_back mount (Forget node count) number ≡ 0
-    by true asks = absurd (asks refl)
-    by false asks = absurd (asks refl)
-back_asks config second mount _ number asks = refl
+pub back_asks : (at : AtTake) (mount : MountModel) (request : Request) (number : ℕ) → plan at mount request [] ≢ done → given_back mount request number ≡ 0
+back_asks at mount (Forget node count) number asks = absurd (asks (ap (λ (p : Plan). p []) (same_either (goes_on mount (Forget node count)) quiet)))
+back_asks at mount (BatchForget pairs) number asks = absurd (asks (ap (λ (p : Plan). p []) (same_either (goes_on mount (BatchForget pairs)) quiet)))
+back_asks at mount _ number asks = same_either mount.negotiated 0
 
-pub back_wants : (mount : MountModel) (request : Request) (source : Source) (number : ℕ) → wants mount request ≡ Some source → given_back mount request number ≡ 0
-back_wants mount (Forget node count) source number wanted = by (goes_on mount (Forget node count)) wanted
-  where
-    by : (on : Bool) → (if on then None else None) ≡ Some source → given_back mount (Forget node count) number ≡ 0
-    by true e = absurd (no_Some e)
-    by false e = absurd (no_Some e)
-back_wants mount _ source number wanted = refl
+pub back_wants : (mount : MountModel) (request : Request) (wanted : Wanted) (number : ℕ) → wants mount request ≡ Some wanted → given_back mount request number ≡ 0
+back_wants mount (Forget node count) wanted number wants_it = absurd (no_Some (sym (same_either (goes_on mount (Forget node count)) None) ∙ wants_it))
+back_wants mount (BatchForget pairs) wanted number wants_it = absurd (no_Some (sym (same_either (goes_on mount (BatchForget pairs)) None) ∙ wants_it))
+back_wants mount _ wanted number wants_it = same_either mount.negotiated 0

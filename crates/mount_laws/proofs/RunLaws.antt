@@ -6,7 +6,7 @@ use Rattle.mount_model.specs.declared.config.Config.{Config}
 use Rattle.fuse_replies.specs.Errno.{enomem, estale}
 use Rattle.mount_rules.specs.Laws.{CountsDecide, GivesLater, IsShortBy, NumbersRise, ShortAreOutOfMemory, count_along, given, given_back}
 use Rattle.mount_rules.specs.Mount.{IsMount}
-use Rattle.mount_rules.specs.OneThread.{Call, Ending, Ends, IsLawful, IsRun, RunState, first_state, mount_by, performed, reply_by, reply_in, second_of, short, stale, state_after_call, state_after_calls}
+use Rattle.mount_rules.specs.OneThread.{Call, Ending, Ends, IsLawful, IsRun, RunState, at_state, first_state, mount_by, performed, reply_by, reply_in, short, stale, state_after_call, state_after_calls}
 use Rattle.mount_laws.proofs.Counting.{counts_first}
 use Rattle.mount_laws.proofs.Mounts.{GivesLater-same, GivesLater-then, IsMount-first}
 use Rattle.mount_laws.proofs.RequestLaws.{back_asks, back_wants, counts, later, never_out_of_memory}
@@ -21,7 +21,7 @@ pub GivesLater-call : (config : Config) (state : RunState) (call : Call) → IsM
 GivesLater-call config state call is = by call.ending
   where
     by : (ending : Ending) → GivesLater state.mount (mount_by config state call ending)
-    by performed = later config (second_of config) state.mount call.request call.seen is
+    by performed = later (at_state config state) state.mount call.request call.seen is
     by short = GivesLater-same state.mount is
     by stale = GivesLater-same state.mount is
 
@@ -51,9 +51,9 @@ module _ (config : Config) (number : ℕ) (other : number ≢ 1) where
 
       by : (ending : Ending) → Ends config state call.request call.seen ending
           → lookups_of (mount_by config state call ending).table number ≡ (lookups_of state.mount.table number + given (reply_by config state call ending) number) - given_back state.mount call.request number
-      by performed ends = counts config (second_of config) state.mount call.request call.seen number is other
-      by short ends = stays enomem (back_asks config (second_of config) state.mount call.request number ends.asks)
-      by stale ends = stays estale (back_wants state.mount call.request ends.source number ends.wanted)
+      by performed ends = counts (at_state config state) state.mount call.request call.seen number is other
+      by short ends = stays enomem (back_asks (at_state config state) state.mount call.request number ends.asks)
+      by stale ends = stays estale (back_wants state.mount call.request ends.wanted number ends.wants_it)
 
   along : (state : RunState) (calls : List Call) (count : ℕ) → IsMount state.mount → lookups_of state.mount.table number ≡ count → IsRun config state calls
       → lookups_of (state_after_calls config state calls).mount.table number ≡ count_along config state number count calls
@@ -70,7 +70,7 @@ pub short_are_out_of_memory : ShortAreOutOfMemory
 short_are_out_of_memory config state call = by call.ending
   where
     by : (ending : Ending) → IsShortBy config state call ending
-    by performed = record { stopped = λ is. absurd (never is); answered = λ is. absurd (never_out_of_memory config (second_of config) state.mount call.request call.seen is) }
+    by performed = record { stopped = λ is. absurd (never is); answered = λ is. absurd (never_out_of_memory (at_state config state) state.mount call.request call.seen is) }
       where
         never : performed ≡ short → ⊥
         never e = cc

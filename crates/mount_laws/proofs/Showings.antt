@@ -1,5 +1,5 @@
 -- Showing a name leaves a table of nodes, what others may see of it, and one look-up more of the node that is shown.
-use Rattle.std.proofs.Common.{◌≡◌, ◌≤◌, ◌+◌, ◌-◌, ℕ, Bool, true, false, List, Option, Some, None, refl, sym, ap, subst, ◌∙◌, nat_eq, nat_lt, arith}
+use Rattle.std.proofs.Common.{◌≡◌, ◌≤◌, ◌+◌, ◌-◌, ℕ, Bool, true, false, List, Option, Some, None, refl, sym, ap, subst, ◌∙◌, nat_eq, nat_lt, arith, option_map}
 use Rattle.std.proofs.lemmas.Bool.Decides.{nat_tests}
 use Rattle.std.specs.Prelude.{if◌then◌else◌, ◌||◌, option_and_then}
 use Rattle.std.specs.FinMap as fin
@@ -15,6 +15,7 @@ use Rattle.mount_rules.specs.View.{sight_of}
 use Rattle.mount_laws.proofs.Counting.{count_of, counts_more}
 use Rattle.mount_laws.proofs.Keeping.{TableKeeps, TableKeeps-granted, TableKeeps-written, no_Some, same_Some}
 use Rattle.mount_laws.proofs.Mounts.{IsNodeTable, TableLater, TableLater-granted, TableLater-written}
+use Rattle.mount_laws.proofs.Sources.{IsNew, IsSameNode, IsSameNode-looked, NodesFrom, NodesFrom-granted, from_put}
 
 -- what showing a node again leaves of it: all but its look-ups, of which there is one more, and what is kept
 pub record ShownAgain (node shown : Node) : Type 0 where
@@ -22,6 +23,7 @@ pub record ShownAgain (node shown : Node) : Type 0 where
   pub name : shown.name ≡ node.name
   pub lookups : shown.lookups ≡ node.lookups + 1
   pub seen : (number : ℕ) → is_live number node ≡ true → sight_of number shown ≡ sight_of number node
+  pub same : IsSameNode node shown
 
 live_more : (number lookups : ℕ) → (nat_eq number 1 || nat_lt 0 (lookups + 1)) ≡ true
 live_more number lookups = by (nat_eq number 1)
@@ -36,6 +38,7 @@ ShownAgain-directory node shown e = subst (ShownAgain node) (same_Some e) (recor
   name = refl;
   lookups = refl;
   seen = λ number live. ap (λ b. record (sight_of number node) { live = b }) (live_more number node.lookups ∙ sym live);
+  same = IsSameNode-looked node (node.lookups + 1);
 })
 
 -- a file that is shown again keeps its source and its size
@@ -53,24 +56,36 @@ refreshed-size meta moment file = by (nat_eq file.source meta.generation)
     by true = refl
     by false = refl
 
+-- a node whose file is refreshed is the same, and is seen as before
+pub IsSameNode-refreshed : (meta : Metadata) (moment : ℕ) (node : Node) (file : File) → node.file ≡ Some file → IsSameNode node (record node { file = Some (refreshed meta moment file) })
+IsSameNode-refreshed meta moment node file has = record {
+  kind = refl;
+  name = refl;
+  shown = (λ i. Some (refreshed-source meta moment file i, refreshed-size meta moment file i)) ∙ sym (ap (option_map (λ (f : File). (f.source, f.size))) has);
+}
+
+pub refreshed-seen : (meta : Metadata) (moment : ℕ) (node : Node) (file : File) → node.file ≡ Some file → (number : ℕ)
+    → sight_of number (record node { file = Some (refreshed meta moment file) }) ≡ sight_of number node
+refreshed-seen meta moment node file has number = λ i. record {
+  kind = node.kind;
+  name = node.name;
+  live = is_live number node;
+  source = (refreshed-source meta moment file ∙ sym (ap (λ f. option_map_or (λ (x : File). x.source) f 0) has)) i;
+  size = (refreshed-size meta moment file ∙ sym (ap (λ f. option_map_or (λ (x : File). x.size) f 0) has)) i;
+}
+
 pub ShownAgain-object : (meta : Metadata) (moment : ℕ) (node shown : Node) → object_again meta moment node ≡ Some shown → ShownAgain node shown
 ShownAgain-object meta moment node shown e = by node.file refl e
   where
-    again : (file : File) → Node
-    again file = looked_up (record node { file = Some (refreshed meta moment file) })
-
     is_again : (file : File) → node.file ≡ Some file → looked_up (record node { file = Some (refreshed meta moment file) }) ≡ shown → ShownAgain node shown
     is_again file has e = subst (ShownAgain node) e (record {
       kind = refl;
       name = refl;
       lookups = refl;
-      seen = λ number live. λ i. record {
-        kind = node.kind;
-        name = node.name;
-        live = (live_more number node.lookups ∙ sym live) i;
-        source = (refreshed-source meta moment file ∙ sym (ap (λ f. option_map_or (λ (x : File). x.source) f 0) has)) i;
-        size = (refreshed-size meta moment file ∙ sym (ap (λ f. option_map_or (λ (x : File). x.size) f 0) has)) i;
-      };
+      seen = λ number live.
+          ap (λ b. record (sight_of number (record node { file = Some (refreshed meta moment file) })) { live = b }) (live_more number node.lookups ∙ sym live)
+          ∙ refreshed-seen meta moment node file has number;
+      same = record { kind = refl; name = refl; shown = (IsSameNode-refreshed meta moment node file has).shown };
     })
 
     on : (file : File) → node.file ≡ Some file → (b : Bool)
@@ -157,3 +172,11 @@ module _ (again : Node → Option Node) (shows : (node shown : Node) → again n
         by (Some shown) e =
             let was = WasCurrent-shown shown e in
             counts_more table number shown.number shown.node (was.again.lookups ∙ ap (λ n. n + 1) (sym (ap count_of was.there)))
+
+  -- each node was there, or is the new one
+  pub shown_nodes : (Shown : List ℕ → ℕ → ℕ → Type 0) (new : Node) → IsNew Shown new → NodesFrom Shown table (with_shown_or_new table (current_shown again table name) new)
+  shown_nodes Shown new is = by (current_shown again table name) refl
+    where
+      by : (shown : Option Numbered) → current_shown again table name ≡ shown → NodesFrom Shown table (with_shown_or_new table shown new)
+      by None e = NodesFrom-granted Shown table new is
+      by (Some shown) e = let was = WasCurrent-shown shown e in from_put Shown table shown.number was.node shown.node was.there was.again.same

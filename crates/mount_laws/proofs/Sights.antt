@@ -8,7 +8,7 @@ use Rattle.claim_spec.specs.declared.claim.ClaimKey.TheVariants as key
 use Rattle.handle_table.specs.Handles.{Opened}
 use Rattle.mount_rules.specs.Laws.{Keeps}
 use Rattle.mount_rules.specs.Mount.{MountModel}
-use Rattle.mount_rules.specs.Rules.{at_node}
+use Rattle.mount_rules.specs.Rules.{at_handle, at_node}
 use Rattle.mount_rules.specs.View.{Looks, Sight, kept_at, old_at, sight_at, view_of}
 use Rattle.mount_laws.proofs.Keeping.{no_Some, same_Some}
 
@@ -71,6 +71,19 @@ LooksClaimed-node mine mount number sight seen claimed = record {
   node = λ n is. let same : number ≡ n = same_Some is in (sight, ap (sight_at mount.table) (sym same) ∙ seen, subst (λ k. IsClaimed mine (key.Node k)) same claimed);
   directory = λ n is. absurd (no_Some is);
   handle = λ fh is. absurd (no_Some is);
+  kept = λ n is. absurd (no_Some is);
+  old = refl;
+  listed = refl;
+}
+
+-- a request that looks at a handle, and at the node that it is on, which it claims
+pub LooksClaimed-handle : (mine : List Claim) (mount : MountModel) (number fh : ℕ) (sight : Sight) → sight_at mount.table number ≡ Some sight
+    → (handle : Opened) → fin.get mount.handles fh ≡ Some handle → handle.node ≡ number → IsClaimed mine (key.Node number)
+    → LooksClaimed mine mount (at_handle number fh)
+LooksClaimed-handle mine mount number fh sight seen handle there on_it claimed = record {
+  node = λ n is. let same : number ≡ n = same_Some is in (sight, ap (sight_at mount.table) (sym same) ∙ seen, subst (λ k. IsClaimed mine (key.Node k)) same claimed);
+  directory = λ n is. absurd (no_Some is);
+  handle = λ f is. let same : fh ≡ f = same_Some is in (handle, ap (fin.get mount.handles) (sym same) ∙ there, subst (λ k. IsClaimed mine (key.Node k)) (sym on_it) claimed);
   kept = λ n is. absurd (no_Some is);
   old = refl;
   listed = refl;

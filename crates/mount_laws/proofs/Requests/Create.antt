@@ -1,12 +1,15 @@
--- CREATE.
+-- The rules of CREATE are sound.
 use Rattle.std.proofs.Common.{◌≡◌, ◌≢◌, ◌+◌, ◌-◌, ℕ, true, List, [], ◌∷◌, Option, Some, None, refl, sym, ap, subst, arith, inl, inr, ◌≤◌, length}
 use Rattle.std.specs.FinMap as fin
 use Rattle.std.specs.List.{AllByRecursion}
+use Rattle.bucket_api.specs.Metadata.{Metadata}
 use Rattle.bucket_api.specs.declared.answers.Answer.{Answer}
-use Rattle.bucket_api.specs.Operation.{Operation}
+use Rattle.bucket_api.specs.declared.answers.Answer.TheVariants as answers
+use Rattle.bucket_api.specs.Operation.{Operation, insert}
 use Rattle.claim_spec.specs.Conflicts.{IsClaimed}
 use Rattle.claim_spec.specs.declared.claim.Claim.{Claim}
 use Rattle.claim_spec.specs.declared.claim.ClaimKey.TheVariants as key
+use Rattle.dir_listing.specs.Kinds.{has_target}
 use Rattle.fuse_replies.specs.declared.reply.Reply.TheVariants.{Error}
 use Rattle.inode_spec.specs.Inodes.{granted, lookups_of}
 use Rattle.mount_model.specs.Observing.{Observed}
@@ -22,13 +25,16 @@ use Rattle.mount_rules.specs.Requests.Create as create
 use Rattle.mount_rules.specs.Making as making
 use Rattle.mount_rules.specs.Making.{Made, new, exists, fault}
 use Rattle.mount_rules.specs.Showing.{new_node}
-use Rattle.mount_laws.proofs.Children.{HasPath-none, IsNameOf-object}
+use Rattle.mount_laws.proofs.Children.{HasPath-none, IsNameOf-object, no_directory}
 use Rattle.mount_laws.proofs.Counting.{count_of, counts_more}
 use Rattle.mount_laws.proofs.Guarding.{in_directory-memory, part_refusal-memory}
-use Rattle.mount_laws.proofs.Keeping.{Keeps-opened, Keeps-same, TableKeeps-granted}
+use Rattle.mount_laws.proofs.Keeping.{Keeps-opened, Keeps-same, TableKeeps-granted, no_Some}
 use Rattle.mount_laws.proofs.Mounts.{GivesLater-opened, GivesLater-same, GivesLater-table, GivesLater-then, IsNodeTable-of, TableLater-granted}
 use Rattle.mount_laws.proofs.Sights.{LooksClaimed-node}
 use Rattle.mount_laws.proofs.Sound.{IsSound}
+use Rattle.mount_laws.proofs.Sources.{HandlesFrom, HandlesFrom-opened, HandlesFrom-table, NodesFrom, NodesFrom-granted, NodesFrom-same}
+use Rattle.mount_laws.proofs.Telling.{Tells, TellsAlong}
+use Rattle.spare_maps.proofs.FinMaps.{number_put_same}
 
 module _ (mount : MountModel) (is : IsMount mount) (path : List ℕ) (moment : ℕ) where
   later : IsPath path → (came : Made) → GivesLater mount (create.mount_after mount path moment came)
@@ -45,6 +51,21 @@ module _ (mount : MountModel) (is : IsMount mount) (path : List ℕ) (moment : �
   leaves claimed name exists = Keeps-same claimed mount
   leaves claimed name fault = Keeps-same claimed mount
 
+  nodes : (Shown : List ℕ → ℕ → ℕ → Type 0) (came : Made) → ((meta : Metadata) → came ≡ new meta → Shown path meta.generation meta.size)
+      → NodesFrom Shown mount.table (create.mount_after mount path moment came).table
+  nodes Shown (new meta) shows = NodesFrom-granted Shown mount.table (new_node path meta moment) (shows meta refl, no_directory (has_target meta.pairs))
+  nodes Shown exists shows = NodesFrom-same Shown mount.table
+  nodes Shown fault shows = NodesFrom-same Shown mount.table
+
+  handles : (came : Made) → HandlesFrom mount (create.mount_after mount path moment came)
+  handles (new meta) = HandlesFrom-opened mount (granted mount.table (new_node path meta moment)) (record { node = mount.table.next; items = None }) (λ none. record {
+    node = new_node path meta moment;
+    there = number_put_same mount.table.nodes mount.table.next (new_node path meta moment);
+    kind = no_directory (has_target meta.pairs);
+  })
+  handles exists = HandlesFrom-table mount mount.table
+  handles fault = HandlesFrom-table mount mount.table
+
   counts : (config : Config) (number : ℕ) (came : Made)
       → lookups_of (create.mount_after mount path moment came).table number ≡ (lookups_of mount.table number + given (create.reply_to config mount path moment came) number) - 0
   counts config number (new meta) = counts_more mount.table number mount.table.next (new_node path meta moment) (ap (λ n. n + 1) (sym none))
@@ -58,10 +79,10 @@ module _ (mount : MountModel) (is : IsMount mount) (path : List ℕ) (moment : �
   counts config number exists = omega arith
   counts config number fault = omega arith
 
-answers : (config : Config) (mount : MountModel) (path : List ℕ) (moment : ℕ) (came : Made) → create.reply_to config mount path moment came ≡ Error enomem → ⊥
-answers config mount path moment (new meta) e = cc
-answers config mount path moment exists e = let same : eexist ≡ enomem = cc in absurd (omega (arith, same))
-answers config mount path moment fault e = let same : eio ≡ enomem = cc in absurd (omega (arith, same))
+answered : (config : Config) (mount : MountModel) (path : List ℕ) (moment : ℕ) (came : Made) → create.reply_to config mount path moment came ≡ Error enomem → ⊥
+answered config mount path moment (new meta) e = cc
+answered config mount path moment exists e = let same : eexist ≡ enomem = cc in absurd (omega (arith, same))
+answered config mount path moment fault e = let same : eio ≡ enomem = cc in absurd (omega (arith, same))
 
 agrees : (mount : MountModel) (path : List ℕ) (moment : ℕ) → mount.negotiated ≡ true → (came : Made) → (create.mount_after mount path moment came).negotiated ≡ true
 agrees mount path moment agreed (new meta) = agreed
@@ -84,16 +105,30 @@ asks_one path second [] planned = omega arith
 asks_one path second (o ∷ []) planned = omega arith
 asks_one path second (o ∷ p ∷ more) planned = absurd planned.1.0
 
+-- a new object is what the bucket tells of it
+makes_shown : (Shown : List ℕ → ℕ → ℕ → Type 0) (path : List ℕ) (second : ℕ) (seen : List Observed) (meta : Metadata)
+    → TellsAlong Shown (making.plan path [] second) seen → making.made (answers_of seen) ≡ new meta → Shown path meta.generation meta.size
+makes_shown Shown path second [] meta tells e = absurd cc
+makes_shown Shown path second (o ∷ more) meta tells e = by o.answer tells.0 e
+  where
+    by : (answer : Answer) → Tells Shown (Some (insert path [] [] (Some 0) second)) answer → making.made_by answer ≡ new meta → Shown path meta.generation meta.size
+    by (answers.Meta told) shown e = let same : told ≡ meta = cc in subst (λ (m : Metadata). Shown path m.generation m.size) same shown
+    by _ shown e = absurd cc
+
 pub create_sound : (node : ℕ) (name : List ℕ) → IsSound (create.rules node name) (λ number. 0) (Some 1)
 create_sound node name = record {
-  later = λ config second mount seen goes. later mount goes.is _ _ (HasPath-none mount node name goes.is goes.free).is_path (making.made (answers_of seen));
-  leaves = λ config second mount seen goes. leaves mount goes.is _ _ _ (inr (inl refl)) (making.made (answers_of seen));
-  sees = λ config second mount goes asks. let has = HasPath-none mount node name goes.is goes.free in LooksClaimed-node _ mount node has.sight has.seen (inl refl);
-  covers = λ taken answers op allows. covers (create.path_of name taken.view) taken.second answers node op allows;
-  harmless = λ taken seen planned asks. harmless (create.path_of name taken.view) taken.second seen asks;
-  bounded = λ taken seen n is planned. let one : 1 ≡ n = cc in subst (λ m. length seen ≤ m) one (asks_one (create.path_of name taken.view) taken.second seen planned);
+  later = λ at mount seen goes. later mount goes.is _ _ (HasPath-none mount node name goes.is goes.free).is_path (making.made (answers_of seen));
+  leaves = λ at mount seen goes. leaves mount goes.is _ _ _ (inr (inl refl)) (making.made (answers_of seen));
+  sees = λ at mount goes asks. let has = HasPath-none mount node name goes.is goes.free in LooksClaimed-node _ mount node has.sight has.seen (inl refl);
+  covers = λ taken answers op allows. covers (create.path_of name taken.view) taken.at.second answers node op allows;
+  harmless = λ taken seen planned asks. harmless (create.path_of name taken.view) taken.at.second seen asks;
+  bounded = λ taken seen n is planned. let one : 1 ≡ n = cc in subst (λ m. length seen ≤ m) one (asks_one (create.path_of name taken.view) taken.at.second seen planned);
+  reads = λ taken wanted wants_it. absurd (no_Some wants_it);
+  of_files = λ mount wanted wants_it. absurd (no_Some wants_it);
   agrees = λ taken mount seen agreed. agrees mount _ _ agreed (making.made (answers_of seen));
   refuses = λ view. in_directory-memory view.node (part_refusal name) (part_refusal-memory name);
-  answers = λ taken mount seen. answers taken.config mount (create.path_of name taken.view) _ (making.made (answers_of seen));
-  counts = λ config second mount seen number other goes. counts mount goes.is _ _ config number (making.made (answers_of seen));
+  answers = λ taken mount seen. answered taken.at.config mount (create.path_of name taken.view) _ (making.made (answers_of seen));
+  counts = λ at mount seen number other goes. counts mount goes.is _ _ at.config number (making.made (answers_of seen));
+  nodes = λ Shown at mount seen goes tells. nodes mount goes.is _ _ Shown (making.made (answers_of seen)) (λ meta e. makes_shown Shown _ at.second seen meta tells e);
+  handles = λ at mount seen goes. handles mount goes.is _ _ (making.made (answers_of seen));
 }

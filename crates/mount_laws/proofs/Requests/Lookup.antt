@@ -1,11 +1,14 @@
--- LOOKUP.
+-- The rules of LOOKUP are sound.
 use Rattle.std.proofs.Common.{◌≡◌, ◌+◌, ◌-◌, ℕ, Bool, true, false, List, [], ◌∷◌, Some, None, refl, sym, subst, arith, inl, inr, ◌≤◌, length}
 use Rattle.std.specs.Prelude.{if◌then◌else◌}
+use Rattle.bucket_api.specs.Metadata.{Metadata}
 use Rattle.bucket_api.specs.declared.answers.Answer.{Answer}
+use Rattle.bucket_api.specs.declared.answers.Answer.TheVariants as told
 use Rattle.bucket_api.specs.Operation.{Operation, stat, list}
 use Rattle.claim_spec.specs.Conflicts.{IsClaimed}
 use Rattle.claim_spec.specs.declared.claim.Claim.{Claim}
 use Rattle.claim_spec.specs.declared.claim.ClaimKey.TheVariants as key
+use Rattle.dir_listing.specs.Kinds.{has_target}
 use Rattle.fuse_replies.specs.declared.reply.Reply.TheVariants.{Error}
 use Rattle.inode_spec.specs.Inodes.{lookups_of}
 use Rattle.mount_model.specs.declared.config.Config.{Config}
@@ -15,18 +18,20 @@ use Rattle.mount_rules.specs.Guards.{part_refusal}
 use Rattle.mount_model.specs.Observing.{Observed}
 use Rattle.mount_rules.specs.Laws.{IsCovered, Planned, given}
 use Rattle.mount_rules.specs.Mount.{MountModel, NodeTable}
-use Rattle.mount_rules.specs.Plans.{Allows, IsHarmless, answers_of}
+use Rattle.mount_rules.specs.Plans.{Allows, IsHarmless, answers_of, asked_by}
 use Rattle.mount_rules.specs.Requests.Lookup as lookup
 use Rattle.mount_rules.specs.Requests.Lookup.{Found, directory, object, nothing, fault, Probed, present, absent, failed}
 use Rattle.mount_rules.specs.Showing.{directory_again, new_directory, new_node, object_again}
 use Rattle.mount_laws.proofs.Asking.{harmless_all}
-use Rattle.mount_laws.proofs.Children.{HasPath, HasPath-none, IsNameOf-object, IsPrefix-path}
+use Rattle.mount_laws.proofs.Children.{HasPath, HasPath-none, IsNameOf-object, IsPrefix-path, no_directory}
 use Rattle.mount_laws.proofs.Guarding.{in_directory-memory, part_refusal-memory}
-use Rattle.mount_laws.proofs.Keeping.{Keeps-table, TableKeeps, TableKeeps-same}
+use Rattle.mount_laws.proofs.Keeping.{Keeps-table, TableKeeps, TableKeeps-same, no_Some}
 use Rattle.mount_laws.proofs.Mounts.{GivesLater-table, IsNodeTable, IsNodeTable-of, TableLater, TableLater-same}
-use Rattle.mount_laws.proofs.Showings.{ShownAgain-directory, ShownAgain-object, shown_counts, shown_keeps, shown_later}
+use Rattle.mount_laws.proofs.Showings.{ShownAgain-directory, ShownAgain-object, shown_counts, shown_keeps, shown_later, shown_nodes}
 use Rattle.mount_laws.proofs.Sights.{LooksClaimed-node}
 use Rattle.mount_laws.proofs.Sound.{IsSound}
+use Rattle.mount_laws.proofs.Sources.{HandlesFrom-table, NodesFrom, NodesFrom-same}
+use Rattle.mount_laws.proofs.Telling.{Tells, TellsAlong}
 
 -- the operation is the probe or the stat of the path
 asks_path : (implicit : Bool) (path : List ℕ) (suffixed : Bool) (answers : List Answer) (claimed : List Claim) (op : Operation)
@@ -98,25 +103,62 @@ module _ (mount : MountModel) (node : ℕ) (part : List ℕ) (is : IsNodeTable m
   counts config number nothing = omega arith
   counts config number fault = omega arith
 
+-- ---- where its nodes come from
+-- an object that is found is what the bucket tells of it
+finds_shown : (Shown : List ℕ → ℕ → ℕ → Type 0) (implicit : Bool) (path : List ℕ) (suffixed : Bool) (seen : List Observed) (meta : Metadata)
+    → TellsAlong Shown (lookup.plan implicit path suffixed) seen → lookup.found (answers_of seen) ≡ object meta → Shown path meta.generation meta.size
+finds_shown Shown implicit path suffixed [] meta tells e = absurd cc
+finds_shown Shown implicit path suffixed (o ∷ []) meta tells e = by (lookup.probed o.answer) e
+  where
+    by : (probe : Probed) → lookup.found_by probe ≡ object meta → Shown path meta.generation meta.size
+    by present e = absurd (let never : directory ≡ object meta = e in cc)
+    by absent e = absurd (let never : nothing ≡ object meta = e in cc)
+    by failed e = absurd (let never : fault ≡ object meta = e in cc)
+finds_shown Shown implicit path suffixed (o ∷ p ∷ more) meta tells e = by (lookup.probed o.answer) suffixed tells.1.0
+  where
+    at : (answer : Answer) → Tells Shown (Some (stat path)) answer → lookup.found_at answer ≡ object meta → Shown path meta.generation meta.size
+    at (told.Meta m) shown e = let same : m ≡ meta = cc in subst (λ (x : Metadata). Shown path x.generation x.size) same shown
+    at _ shown e = absurd cc
+
+    by : (probe : Probed) (s : Bool) → Tells Shown (asked_by (lookup.after_probe path s probe)) p.answer → Shown path meta.generation meta.size
+    by present true shown = at p.answer shown e
+    by present false never = absurd never
+    by absent true never = absurd never
+    by absent false shown = at p.answer shown e
+    by failed s never = absurd never
+
+nodes : (table : NodeTable) (path : List ℕ) (moment : ℕ) (Shown : List ℕ → ℕ → ℕ → Type 0) (found : Found)
+    → ((meta : Metadata) → found ≡ object meta → Shown path meta.generation meta.size) → NodesFrom Shown table (lookup.table_after table path moment found)
+nodes table path moment Shown directory shows = shown_nodes directory_again ShownAgain-directory table (dir_prefix_of path) Shown (new_directory (dir_prefix_of path)) refl
+nodes table path moment Shown (object meta) shows =
+    shown_nodes (object_again meta moment) (ShownAgain-object meta moment) table path Shown (new_node path meta moment) (shows meta refl, no_directory (has_target meta.pairs))
+nodes table path moment Shown nothing shows = NodesFrom-same Shown table
+nodes table path moment Shown fault shows = NodesFrom-same Shown table
+
 pub lookup_sound : (node : ℕ) (name : List ℕ) → IsSound (lookup.rules node name) (λ number. 0) (Some 2)
 lookup_sound node name = record {
-  later = λ config second mount seen goes.
+  later = λ at mount seen goes.
       let has = HasPath-none mount node (bare_name name) goes.is goes.free in
       GivesLater-table mount goes.is _ (later mount node (bare_name name) (IsNodeTable-of mount goes.is) has _ has.is_path _ (lookup.found (answers_of seen)));
-  leaves = λ config second mount seen goes.
+  leaves = λ at mount seen goes.
       let has = HasPath-none mount node (bare_name name) goes.is goes.free in
       Keeps-table _ mount _ (leaves mount node (bare_name name) (IsNodeTable-of mount goes.is) has _ has.is_path _ _ (inr (inr (inl refl))) (inr (inl refl)) (lookup.found (answers_of seen)));
-  sees = λ config second mount goes asks.
+  sees = λ at mount goes asks.
       let has = HasPath-none mount node (bare_name name) goes.is goes.free in
       LooksClaimed-node _ mount node has.sight has.seen (inl refl);
   covers = λ taken answers op allows.
-      asks_path taken.config.implicit_dirs (lookup.path_of name taken.view) (has_suffix name) answers (lookup.claims node name taken.view) op (inr (inr (inl refl))) (inr (inl refl)) allows;
-  harmless = λ taken seen planned asks. harmless_all _ (asks_harmless taken.config.implicit_dirs (lookup.path_of name taken.view) (has_suffix name)) seen planned;
-  bounded = λ taken seen n is planned. let two : 2 ≡ n = cc in subst (λ m. length seen ≤ m) two (asks_two taken.config.implicit_dirs (lookup.path_of name taken.view) (has_suffix name) seen planned);
+      asks_path taken.at.config.implicit_dirs (lookup.path_of name taken.view) (has_suffix name) answers (lookup.claims node name taken.view) op (inr (inr (inl refl))) (inr (inl refl)) allows;
+  harmless = λ taken seen planned asks. harmless_all _ (asks_harmless taken.at.config.implicit_dirs (lookup.path_of name taken.view) (has_suffix name)) seen planned;
+  bounded = λ taken seen n is planned. let two : 2 ≡ n = cc in subst (λ m. length seen ≤ m) two (asks_two taken.at.config.implicit_dirs (lookup.path_of name taken.view) (has_suffix name) seen planned);
+  reads = λ taken wanted wants_it. absurd (no_Some wants_it);
+  of_files = λ mount wanted wants_it. absurd (no_Some wants_it);
   agrees = λ taken mount seen agreed. agreed;
   refuses = λ view. in_directory-memory view.node (part_refusal (bare_name name)) (part_refusal-memory (bare_name name));
-  answers = λ taken mount seen. answers taken.config mount.table (lookup.path_of name taken.view) _ (lookup.found (answers_of seen));
-  counts = λ config second mount seen number other goes.
+  answers = λ taken mount seen. answers taken.at.config mount.table (lookup.path_of name taken.view) _ (lookup.found (answers_of seen));
+  counts = λ at mount seen number other goes.
       let has = HasPath-none mount node (bare_name name) goes.is goes.free in
-      counts mount node (bare_name name) (IsNodeTable-of mount goes.is) has _ has.is_path _ config number (lookup.found (answers_of seen));
+      counts mount node (bare_name name) (IsNodeTable-of mount goes.is) has _ has.is_path _ at.config number (lookup.found (answers_of seen));
+  nodes = λ Shown at mount seen goes tells.
+      nodes mount.table _ _ Shown (lookup.found (answers_of seen)) (λ meta e. finds_shown Shown at.config.implicit_dirs _ (has_suffix name) seen meta tells e);
+  handles = λ at mount seen goes. HandlesFrom-table mount _;
 }

@@ -1,4 +1,4 @@
--- OPENDIR.
+-- The rules of OPENDIR are sound.
 use Rattle.std.proofs.Common.{◌≡◌, ◌+◌, ◌-◌, ℕ, true, List, [], ◌∷◌, Option, Some, None, refl, sym, subst, arith, inl}
 use Rattle.std.specs.Option.{option_map_or}
 use Rattle.bucket_api.specs.declared.answers.Answer.{Answer}
@@ -18,12 +18,11 @@ use Rattle.mount_rules.specs.View.{Sight}
 use Rattle.mount_laws.proofs.Guarding.{in_directory-memory, in_directory-none}
 use Rattle.mount_laws.proofs.Asking.{harmless_all}
 use Rattle.mount_laws.proofs.Keeping.{Keeps-opened, Keeps-same, TableKeeps-same, no_Some}
+use Rattle.mount_laws.proofs.Memory.{no_error}
 use Rattle.mount_laws.proofs.Mounts.{GivesLater-opened, GivesLater-same}
 use Rattle.mount_laws.proofs.Sights.{LooksClaimed-node}
 use Rattle.mount_laws.proofs.Sound.{IsSound}
-
-no_error : None ≡ Some enomem → ⊥
-no_error e = cc
+use Rattle.mount_laws.proofs.Sources.{HandlesFrom, HandlesFrom-opened, HandlesFrom-table, NodesFrom, NodesFrom-same}
 
 -- every operation is a list
 covers : (prefix : List ℕ) (max : ℕ) (after : Option (List ℕ)) (told : List Answer) (claimed : List Claim) (op : Operation)
@@ -66,6 +65,14 @@ module _ (mount : MountModel) (is : IsMount mount) (node : ℕ) where
   leaves claimed None = Keeps-same claimed mount
   leaves claimed (Some items) = Keeps-opened claimed mount is mount.table (TableKeeps-same claimed mount.table) (record { node = node; items = Some items })
 
+  nodes : (Shown : List ℕ → ℕ → ℕ → Type 0) (items : Option (List DirItem)) → NodesFrom Shown mount.table (opendir.mount_after node mount items).table
+  nodes Shown None = NodesFrom-same Shown mount.table
+  nodes Shown (Some items) = NodesFrom-same Shown mount.table
+
+  handles : (items : Option (List DirItem)) → HandlesFrom mount (opendir.mount_after node mount items)
+  handles None = HandlesFrom-table mount mount.table
+  handles (Some items) = HandlesFrom-opened mount mount.table (record { node = node; items = Some items }) (λ none. absurd (no_Some (sym none)))
+
   counts : (number : ℕ) (items : Option (List DirItem))
       → lookups_of (opendir.mount_after node mount items).table number ≡ (lookups_of mount.table number + given (opendir.reply_to mount items) number) - 0
   counts number None = omega arith
@@ -81,14 +88,18 @@ reply_answers mount (Some items) e = cc
 
 pub opendir_sound : (node : ℕ) → IsSound (opendir.rules node) (λ number. 0) None
 opendir_sound node = record {
-  later = λ config second mount seen goes. later mount goes.is node _;
-  leaves = λ config second mount seen goes. leaves mount goes.is node _ _;
-  sees = λ config second mount goes asks. let d = in_directory-none _ (λ (sight : Sight). None) goes.free in LooksClaimed-node _ mount node d.sight d.is (inl refl);
-  covers = λ taken told op allows. covers (opendir.prefix_of taken.view) taken.config.list_page None told (shares_node node ∷ []) op allows;
-  harmless = λ taken seen planned asks. harmless_all _ (asks_lists (opendir.prefix_of taken.view) taken.config.list_page None) seen planned;
+  later = λ at mount seen goes. later mount goes.is node _;
+  leaves = λ at mount seen goes. leaves mount goes.is node _ _;
+  sees = λ at mount goes asks. let d = in_directory-none _ (λ (sight : Sight). None) goes.free in LooksClaimed-node _ mount node d.sight d.is (inl refl);
+  covers = λ taken told op allows. covers (opendir.prefix_of taken.view) taken.at.config.list_page None told (shares_node node ∷ []) op allows;
+  harmless = λ taken seen planned asks. harmless_all _ (asks_lists (opendir.prefix_of taken.view) taken.at.config.list_page None) seen planned;
   bounded = λ taken seen n is planned. absurd (no_Some is);
+  reads = λ taken wanted wants_it. absurd (no_Some wants_it);
+  of_files = λ mount wanted wants_it. absurd (no_Some wants_it);
   agrees = λ taken mount seen agreed. agrees node mount agreed _;
   refuses = λ view. in_directory-memory view.node (λ sight. None) (λ sight. no_error);
   answers = λ taken mount seen. reply_answers mount _;
-  counts = λ config second mount seen number other goes. counts mount goes.is node number _;
+  counts = λ at mount seen number other goes. counts mount goes.is node number _;
+  nodes = λ Shown at mount seen goes tells. nodes mount goes.is node Shown _;
+  handles = λ at mount seen goes. handles mount goes.is node _;
 }

@@ -1,5 +1,6 @@
 -- The laws of requests.
-use Rattle.mount_laws.proofs.RequestLaws.{stays_mount, leaves_others, claims_protect, claims_cover, never_out_of_memory, harmless_while_asking, asks_at_most}
+use Rattle.mount_laws.proofs.RequestLaws.{stays_mount, leaves_others, claims_protect, claims_cover, never_out_of_memory, harmless_while_asking, asks_at_most, may_read_wanted, wants_of_files}
+use Rattle.mount_laws.proofs.ParentLaws.{parents_are_claimed, parents_protect}
 use Rattle.mount_laws.proofs.laws.request_laws.Goals as goal
 
 pub returns-clause-mounts : goal.returns-clause-mounts
@@ -10,6 +11,12 @@ returns-clause-leaves c = leaves_others
 
 pub returns-clause-claims : goal.returns-clause-claims
 returns-clause-claims c = claims_protect
+
+pub returns-clause-parents : goal.returns-clause-parents
+returns-clause-parents c = parents_protect
+
+pub returns-clause-claimed : goal.returns-clause-claimed
+returns-clause-claimed c = parents_are_claimed
 
 pub returns-clause-covers : goal.returns-clause-covers
 returns-clause-covers c = claims_cover
@@ -22,3 +29,9 @@ returns-clause-harmless c = harmless_while_asking
 
 pub returns-clause-bounded : goal.returns-clause-bounded
 returns-clause-bounded c = asks_at_most
+
+pub returns-clause-reads : goal.returns-clause-reads
+returns-clause-reads c = may_read_wanted
+
+pub returns-clause-sources : goal.returns-clause-sources
+returns-clause-sources c = wants_of_files

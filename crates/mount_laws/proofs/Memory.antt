@@ -1,0 +1,19 @@
+-- What isn't ENOMEM.
+use Rattle.std.proofs.Common.{◌≡◌, ◌≢◌, ℕ, Some, None}
+use Rattle.fuse_replies.specs.Errno.{enomem}
+use Rattle.fuse_replies.specs.declared.reply.Reply.TheVariants.{Empty, Error, Silent}
+
+-- no refusal
+pub no_error : None ≢ Some enomem
+no_error e = cc
+
+-- another error
+pub errors_differ : {errno : ℕ} → (errno ≡ enomem → ⊥) → Some errno ≢ Some enomem
+errors_differ {errno} other e = let same : errno ≡ enomem = cc in other same
+
+-- no reply, and a reply without a body
+pub silent_answered : Silent ≢ Error enomem
+silent_answered e = cc
+
+pub empty_answered : Empty ≢ Error enomem
+empty_answered e = cc

@@ -1,0 +1,3 @@
+-- Laws that are stated here, beside those of the rules.
+pub mod Listings
+pub mod Parents
