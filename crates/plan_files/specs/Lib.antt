@@ -1,0 +1,3 @@
+-- The words that the contracts of `plan_files` cite.
+pub mod Errands
+pub mod Outcomes
