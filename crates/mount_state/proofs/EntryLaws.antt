@@ -22,7 +22,8 @@ use Rattle.mount_rules.specs.Mount.{MountModel}
 use Rattle.mount_rules.specs.Plans.{answers_of}
 use Rattle.mount_rules.specs.Requests.Opendir.{is_page}
 use Rattle.mount_rules.specs.Requests.Readdir as readdir
-use Rattle.mount_rules.specs.Requests.Readdir.{dirent_at, fitting, longest_read}
+use Rattle.mount_rules.specs.Guards.{longest_read, size_refusal}
+use Rattle.mount_rules.specs.Requests.Readdir.{dirent_at, fitting}
 use Rattle.object_names.specs.declared.shown.DirItem.{DirItem}
 use Rattle.mount_laws.proofs.Keeping.{no_Some}
 use Rattle.mount_state.specs.Spares.{Provided, entries, handle, nothing, path, provided_for}
@@ -43,19 +44,19 @@ length-fitting position room (item ∷ more) = by (nat_le (dirent_len item.shown
 
 -- a READDIR that nothing refuses asks for not too many bytes
 not_too_long : (node size : ℕ) (opened : Option Opened)
-    → on_open_directory node opened (λ entries. if nat_le size longest_read then None else Some einval) ≡ None → size ≤ longest_read
+    → on_open_directory node opened (λ entries. size_refusal size) ≡ None → size ≤ longest_read
 not_too_long node size opened free = by (option_and_then (entries_opened node) opened) free
   where
     at : (t : Bool) → nat_le size longest_read ≡ t → (if t then None else Some einval) ≡ None → size ≤ longest_read
     at true fits e = grind (arith, nat_tests, fits)
     at false long e = absurd (no_Some (sym e))
 
-    by : (o : Option (List DirItem)) → option_map_or (λ entries. if nat_le size longest_read then None else Some einval) o (Some ebadf) ≡ None → size ≤ longest_read
+    by : (o : Option (List DirItem)) → option_map_or (λ entries. size_refusal size) o (Some ebadf) ≡ None → size ≤ longest_read
     by None e = absurd (no_Some (sym e))
     by (Some items) e = at (nat_le size longest_read) refl e
 
 -- the rules of a request that isn't refused refuse nothing
-no_refusal : (mount : MountModel) (request : Request) → early mount request ≡ None → (rules_of request).refusal (view_in mount request) ≡ None
+pub no_refusal : (mount : MountModel) (request : Request) → early mount request ≡ None → (rules_of request).refusal (view_in mount request) ≡ None
 no_refusal mount request free = by (not mount.negotiated && not (is_silent request) && not (is_init request)) free
   where
     by : (t : Bool) → (if t then Some eproto else (rules_of request).refusal (view_in mount request)) ≡ None → (rules_of request).refusal (view_in mount request) ≡ None

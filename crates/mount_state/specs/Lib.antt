@@ -1,5 +1,6 @@
 -- The words that the contracts of `mount_state` cite.
 pub mod Codes
 pub mod Mounts
+pub mod Serving
 pub mod Spares
 pub mod Tables

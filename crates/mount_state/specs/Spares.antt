@@ -3,7 +3,7 @@ use Rattle.std.specs.Prelude.{◌≡◌, ℕ, List, drop, Option, Some, None, If
 use Rattle.std.specs.List.{list_all}
 use Rattle.fuse_replies.specs.declared.reply.Dirent.{Dirent}
 use Rattle.fuse_requests.specs.declared.request.Request.{Request}
-use Rattle.fuse_requests.specs.declared.request.Request.TheVariants.{Lookup, Create, Readdir, Opendir}
+use Rattle.fuse_requests.specs.declared.request.Request.TheVariants.{Lookup, Create, Opening, Readdir, Opendir}
 use Rattle.mount_model.specs.Observing.{Observed}
 use Rattle.mount_model.specs.declared.config.Config.{Config}
 use Rattle.mount_rules.specs.Dispatch.{view_in}
@@ -48,6 +48,7 @@ provided_by (prepared.Entries row) = entries row.items
 abbrev pub provided_for : Request → View → Provided
 provided_for (Lookup node name) view = path (lookup.path_of name view)
 provided_for (Create node name) view = path (create.path_of name view)
+provided_for (Opening node flags) view = handle
 provided_for (Opendir node) view = handle
 provided_for (Readdir node fh first size) view = entries (readdir.fitting first size (drop first (readdir.entries_of node view)))
 provided_for request view = nothing

@@ -18,14 +18,21 @@ pub(crate) fn entry_of(config: &Config, number: u64, inode: &Inode<File>) -> Ent
 {
     EntryOut {
         node: number,
-        attr: AttrOut {
-            ino: number,
-            size: size_of(inode),
-            mtime: mtime_of(config, inode),
-            nanos: 0,
-            mode: mode_of(inode.kind),
-            nlink: 1,
-        },
+        attr: attributes(config, number, inode),
+    }
+}
+
+/// The attributes of a node, with one name.
+pub(crate) fn attributes(config: &Config, number: u64, inode: &Inode<File>) -> AttrOut
+    ensures { result ≡ spec.attributes config.now number inode.now }
+{
+    AttrOut {
+        ino: number,
+        size: size_of(inode),
+        mtime: mtime_of(config, inode),
+        nanos: 0,
+        mode: mode_of(inode.kind),
+        nlink: 1,
     }
 }
 

@@ -1,11 +1,14 @@
 //! The end of each request: what it is answered, and what it leaves.
-ghost use Rattle.std.specs.Prelude.{◌≡◌, ◌<◌, ◌^◌, ℕ, None};
+ghost use Rattle.std.specs.Prelude.{◌≡◌, ◌<◌, ◌^◌, None};
 ghost use Rattle.fuse_replies.specs.Replies.{IsSendable, without_spare as reply_without_spare};
 ghost use Rattle.fuse_requests.specs.Grammar.{without_spare};
 ghost use Rattle.mount_rules.specs.Dispatch.{early, mount_after, reply_to};
+ghost use Rattle.mount_rules.specs.Rules.{AtTake};
+ghost use Rattle.mount_state.specs.Serving.{IsServedAt, Serves};
 ghost use Rattle.mount_state.specs.Spares.{Fills, IsFor, need};
 ghost use Rattle.mount_state.specs.Tables.{mount_of, HasRoom, Uses};
 
+use crate::base::Base;
 use crate::spare::Spare;
 use crate::tables::Tables;
 use fuse_replies::Reply;
@@ -21,14 +24,16 @@ impl Tables {
         request: &Request,
         spare: Spare,
         seen: Row<Observation>,
+        base: Base,
     ) -> Reply
         requires free { early (mount_of self.old) (without_spare request.now) ≡ None }
         requires spare { IsFor (mount_of self.old) (without_spare request.now) spare }
         requires items { Fills config.now (mount_of self.old) (without_spare request.now) seen.items spare.items }
         requires room { HasRoom (need spare.provided) self.old }
         requires number { self.old.handles.next < 2 ^ 62 }
-        ensures reply { (second : ℕ) → reply_without_spare result ≡ reply_to config.now second (mount_of self.old) (without_spare request.now) seen.items }
-        ensures mount { (second : ℕ) → mount_of self.new ≡ mount_after config.now second (mount_of self.old) (without_spare request.now) seen.items }
+        requires base { Serves (mount_of self.old) (without_spare request.now) base }
+        ensures reply { (at : AtTake) → IsServedAt config.now (mount_of self.old) (without_spare request.now) base at → reply_without_spare result ≡ reply_to at (mount_of self.old) (without_spare request.now) seen.items }
+        ensures mount { (at : AtTake) → IsServedAt config.now (mount_of self.old) (without_spare request.now) base at → mount_of self.new ≡ mount_after at (mount_of self.old) (without_spare request.now) seen.items }
         ensures uses { Uses (need spare.provided) self.old self.new }
         ensures sendable { IsSendable (reply_without_spare result) }
     {
@@ -37,6 +42,14 @@ impl Tables {
             Request::Lookup { .. } => self.look_up(config, prepared.into_path(), seen),
             Request::Create { .. } => self.create(config, prepared.into_path(), seen),
             Request::Readdir { .. } => Reply::Dirents(prepared.into_entries()),
+            Request::Getattr { node } => self.tell_attributes(config, *node, seen),
+            Request::Opening { node, .. } => self.open_file(*node, seen),
+            Request::Read {
+                node,
+                first,
+                size,
+                ..
+            } => self.read(*node, *first, *size, seen.as_slice(), base),
             Request::Opendir { node } => self.open_directory(*node, items, seen),
             Request::Releasedir { fh, .. } => self.release_directory(*fh),
             Request::Fsyncdir { .. } | Request::Destroy => Reply::Empty,
@@ -48,6 +61,7 @@ impl Tables {
                 flags,
             } => self.init(*major, *minor, *readahead, *flags),
             Request::Forget { node, count } => self.forget(*node, *count),
+            Request::BatchForget { pairs } => self.forget_pairs(pairs.as_slice()),
             _ => Reply::Silent,
         }
     }

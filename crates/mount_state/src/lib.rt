@@ -3,26 +3,32 @@
 #![tactic(auto)]
 
 mod attributes;
+mod base;
 mod create;
 mod entries;
 mod file;
 mod finish;
 mod forget;
+mod getattr;
 mod init;
 mod lookup;
 mod mount;
+mod open;
 mod opendir;
 mod path;
 mod prepare;
 mod prepared;
+mod read;
 mod refusals;
 mod releasedir;
 mod showing;
 mod spare;
+mod standing;
 mod tables;
 #[cfg(test)]
 mod tests;
 
+pub use base::Base;
 pub use file::{File, Kept};
 pub use mount::Mount;
 pub use spare::Spare;

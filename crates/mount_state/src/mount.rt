@@ -4,8 +4,11 @@ ghost use Rattle.fuse_replies.specs.Replies.{IsSendable, without_spare as reply_
 ghost use Rattle.fuse_requests.specs.Grammar.{without_spare};
 ghost use Rattle.mount_rules.specs.Dispatch.{early, mount_after, reply_to, view_in};
 ghost use Rattle.mount_rules.specs.Mount.{IsMount, first_mount};
+ghost use Rattle.mount_rules.specs.Rules.{AtTake};
+ghost use Rattle.mount_state.specs.Serving.{IsServedAt, Serves};
 ghost use Rattle.mount_state.specs.Spares.{Fills, IsFor, need, nothing, provided_for};
 
+use crate::base::Base;
 use crate::file::File;
 use crate::spare::Spare;
 use crate::tables::Tables;
@@ -84,7 +87,8 @@ impl Mount {
     /// version is agreed on (EPROTO), then that it isn't served (ENOSYS) or could not be read (EINVAL), then what its own
     /// rules refuse. None where nothing does, and for requests that never get a reply.
     pub fn early(&self, request: &Request) -> Option<u32>
-        ensures { result ≡ early self.now.mount (without_spare request.now) }
+        ensures errno { result ≡ early self.now.mount (without_spare request.now) }
+        ensures valid { IsMount self.now.mount }
     {
         self.tables.early(request)
     }
@@ -98,6 +102,7 @@ impl Mount {
         ensures empty { IfOk result (λ spare. spare.items ≡ []) }
         ensures room { IfOk result (λ spare. self.new ≡ record self.old { promised = self.old.promised + need spare.provided }) }
         ensures err { OnErr result (self.new ≡ self.old) }
+        ensures valid { IsMount self.old.mount }
         ensures full { OnErr result (provided_for (without_spare request.now) (view_in self.old.mount (without_spare request.now)) ≢ nothing) }
     {
         let prepared = self.tables.prepared(alloc, request)?;
@@ -136,18 +141,25 @@ impl Mount {
 
     /// What a request that observed this is answered, and the mount then: both as the rules of the requests say. It takes
     /// no memory: what it wants is in the spare, which was prepared for this request, at a mount at which the request saw
-    /// what it sees now.
-    pub fn finish(&mut self, request: &Request, spare: Spare, seen: Row<Observation>) -> Reply
+    /// what it sees now; and the bytes of its source that it wants are in `base`.
+    pub fn finish(
+        &mut self,
+        request: &Request,
+        spare: Spare,
+        seen: Row<Observation>,
+        base: Base,
+    ) -> Reply
         requires free { early self.old.mount (without_spare request.now) ≡ None }
         requires spare { IsFor self.old.mount (without_spare request.now) spare }
         requires items { Fills self.old.config self.old.mount (without_spare request.now) seen.items spare.items }
         requires room { need spare.provided ≤ self.old.promised }
-        ensures reply { (second : ℕ) → reply_without_spare result ≡ reply_to self.old.config second self.old.mount (without_spare request.now) seen.items }
-        ensures mount { (second : ℕ) → self.new ≡ record self.old { mount = mount_after self.old.config second self.old.mount (without_spare request.now) seen.items; promised = self.old.promised - need spare.provided } }
+        requires base { Serves self.old.mount (without_spare request.now) base }
+        ensures reply { (at : AtTake) → IsServedAt self.old.config self.old.mount (without_spare request.now) base at → reply_without_spare result ≡ reply_to at self.old.mount (without_spare request.now) seen.items }
+        ensures mount { (at : AtTake) → IsServedAt self.old.config self.old.mount (without_spare request.now) base at → self.new ≡ record self.old { mount = mount_after at self.old.mount (without_spare request.now) seen.items; promised = self.old.promised - need spare.provided } }
         ensures sendable { IsSendable (reply_without_spare result) }
     {
         let room = spare.prepared.need();
-        let reply = self.tables.finish(&self.config, request, spare, seen);
+        let reply = self.tables.finish(&self.config, request, spare, seen, base);
         self.promised -= room;
         reply
     }

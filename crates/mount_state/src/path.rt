@@ -33,6 +33,15 @@ impl RoomyPath {
         Ok(RoomyPath { text })
     }
 
+    /// An equal path of its own. `NoMemory` where memory for it was refused.
+    fn copy(&self, alloc: Global) -> Result<RoomyPath, NoMemory>
+        ensures { IfOk result (λ copy. copy ≡ self.now) }
+    {
+        let mut text = String::with_capacity(alloc, self.text.len() + 1)?;
+        text.push_str(self.text.as_str())?;
+        Ok(RoomyPath { text })
+    }
+
     /// The path.
     fn into_path(self) -> Text
         ensures { result ≡ self }
@@ -76,7 +85,7 @@ impl PathTwice {
         ensures { IfOk result (λ path. path ≡ prefix.now ++ part.now) }
     {
         let path = RoomyPath::of(alloc, prefix, part)?;
-        let again = RoomyPath::of(alloc, prefix, part)?;
+        let again = path.copy(alloc)?;
         Ok(PathTwice { path, again })
     }
 

@@ -37,7 +37,7 @@ impl Tables {
                 first,
                 size,
             } => self.entries(alloc, *node, *fh, *first, *size),
-            Request::Opendir { .. } => Ok(Prepared::Handle),
+            Request::Opening { .. } | Request::Opendir { .. } => Ok(Prepared::Handle),
             _ => Ok(Prepared::Nothing),
         }
     }

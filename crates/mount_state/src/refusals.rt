@@ -1,18 +1,18 @@
 //! Why a request is refused before it asks anything.
-ghost use Rattle.std.specs.Prelude.{◌≡◌, Some, None, nat_le, if◌then◌else◌};
-ghost use Rattle.fuse_replies.specs.Errno.{einval, enotdir, estale};
+ghost use Rattle.std.specs.Prelude.{◌≡◌, Some, None, if◌then◌else◌};
+ghost use Rattle.fuse_replies.specs.Errno.{enotdir, estale};
 ghost use Rattle.fuse_requests.specs.Grammar.{without_spare};
 ghost use Rattle.inode_spec.specs.Inodes as inodes;
 ghost use Rattle.mount_rules.specs.Dispatch as rules;
 ghost use Rattle.mount_rules.specs.Guards as guards;
-ghost use Rattle.mount_rules.specs.Requests.Readdir as readdir;
-ghost use Rattle.mount_rules.specs.View.{Sight, sight_at};
+ghost use Rattle.mount_rules.specs.Rules.{at_handle};
+ghost use Rattle.mount_rules.specs.View.{Sight, sight_at, view_of};
 ghost use Rattle.mount_state.specs.Tables.{mount_of};
 ghost use Rattle.std.specs.FinMap as fin;
 
 use crate::file::File;
 use crate::tables::Tables;
-use fuse_replies::errno::{EBADF, EINVAL, ENAMETOOLONG, ENOSYS, ENOTDIR, EPROTO, ESTALE};
+use fuse_replies::errno::{EBADF, EINVAL, EISDIR, ENAMETOOLONG, ENOSYS, ENOTDIR, EPROTO, ESTALE};
 use fuse_requests::{Request, opcode};
 use inode_table::Inode;
 use object_names::{NameFault, NodeKind, component_text, path_fits, strip_suffix};
@@ -47,6 +47,9 @@ impl Tables {
             ),
             Request::Create { node, name } => self.child_refusal(*node, name.as_slice()),
             Request::Opendir { node } => self.directory_refusal(*node),
+            Request::Getattr { node } => self.live_refusal(*node),
+            Request::Opening { node, .. } => self.file_refusal(*node),
+            Request::Read { node, fh, size, .. } => self.read_refusal(*node, *fh, *size),
             Request::Readdir { node, fh, size, .. } => self.readdir_refusal(*node, *fh, *size),
             Request::Releasedir { node, fh } | Request::Fsyncdir { node, fh } => {
                 self.handle_refusal(*node, *fh)
@@ -55,6 +58,26 @@ impl Tables {
             Request::Forget { .. } | Request::BatchForget { .. } | Request::Interrupt => None,
             Request::Unknown { opcode } => unread(*opcode),
             _ => Some(ENOSYS),
+        }
+    }
+
+    /// The error of a node that isn't live.
+    fn live_refusal(&self, node: u64) -> Option<u32>
+        ensures { result ≡ guards.on_live (sight_at self.now.nodes.table node) (λ sight. None) }
+    {
+        match self.nodes.get(node) {
+            Some(inode) if is_live(node, inode) => None,
+            _ => Some(ESTALE),
+        }
+    }
+
+    /// The error of a node that is no live file.
+    fn file_refusal(&self, node: u64) -> Option<u32>
+        ensures { result ≡ guards.in_file (sight_at self.now.nodes.table node) (λ file. None) }
+    {
+        match self.nodes.get(node) {
+            Some(inode) if is_live(node, inode) => not_a_file(inode.kind),
+            _ => Some(ESTALE),
         }
     }
 
@@ -91,15 +114,76 @@ impl Tables {
         }
     }
 
+    /// The error of a handle that is no open file on this node, which is there.
+    fn open_file_refusal(&self, node: u64, fh: u64) -> Option<u32>
+        ensures { result ≡ guards.on_open_file node (view_of (mount_of self.now) (at_handle node fh)) (λ file. None) }
+    {
+        match self.handles.get(fh) {
+            Some(handle) if handle.node == node && handle.items.is_none() => {},
+            _ => return Some(EBADF),
+        }
+        match self.nodes.get(node) {
+            Some(inode) if !is_directory(inode.kind) => None,
+            _ => Some(EBADF),
+        }
+    }
+
+    /// The error of a READ: that of its handle, or that it asks for too many bytes.
+    fn read_refusal(&self, node: u64, fh: u64, size: u32) -> Option<u32>
+        ensures { result ≡ guards.on_open_file node (view_of (mount_of self.now) (at_handle node fh)) (λ file. guards.size_refusal size) }
+    {
+        match self.open_file_refusal(node, fh) {
+            Some(errno) => Some(errno),
+            None => size_refusal(size),
+        }
+    }
+
     /// The error of a READDIR: that of its handle, or that it asks for too many bytes.
     fn readdir_refusal(&self, node: u64, fh: u64, size: u32) -> Option<u32>
-        ensures { result ≡ guards.on_open_directory node (fin.get self.now.handles.handles fh) (λ entries. if nat_le size readdir.longest_read then None else Some einval) }
+        ensures { result ≡ guards.on_open_directory node (fin.get self.now.handles.handles fh) (λ entries. guards.size_refusal size) }
     {
         match self.handle_refusal(node, fh) {
             Some(errno) => Some(errno),
-            None if size <= LONGEST_READ => None,
-            None => Some(EINVAL),
+            None => size_refusal(size),
         }
+    }
+}
+
+/// The error of a READ or READDIR that asks for too many bytes.
+fn size_refusal(size: u32) -> Option<u32>
+    ensures { result ≡ guards.size_refusal size }
+{
+    if size <= LONGEST_READ {
+        return None;
+    }
+    Some(EINVAL)
+}
+
+/// Whether a node that is there is live: the root is, and every other one that has look-ups.
+fn is_live(node: u64, inode: &Inode<File>) -> bool
+    ensures { result ≡ inodes.is_live node inode.now }
+{
+    node == ROOT || inode.lookups > 0
+}
+
+/// Whether a node of this kind is a directory.
+fn is_directory(kind: NodeKind) -> bool
+    ensures { result ≡ guards.is_directory kind }
+{
+    match kind {
+        NodeKind::Dir => true,
+        _ => false,
+    }
+}
+
+/// The error of a kind of node that isn't read and written as a file.
+fn not_a_file(kind: NodeKind) -> Option<u32>
+    ensures { result ≡ guards.on_file kind None }
+{
+    match kind {
+        NodeKind::Dir => Some(EISDIR),
+        NodeKind::Symlink => Some(EINVAL),
+        NodeKind::File => None,
     }
 }
 
@@ -107,7 +191,7 @@ impl Tables {
 fn kind_refusal(node: u64, inode: &Inode<File>) -> Option<u32>
     ensures { result ≡ (if inodes.is_live node inode.now then (if guards.is_directory inode.now.kind then None else Some enotdir) else Some estale) }
 {
-    if node != ROOT && inode.lookups == 0 {
+    if !is_live(node, inode) {
         return Some(ESTALE);
     }
     match inode.kind {
@@ -167,6 +251,9 @@ fn is_served_opcode(opcode: u32) -> bool
     matches!(
         opcode,
         opcode::LOOKUP
+            | opcode::GETATTR
+            | opcode::OPEN
+            | opcode::READ
             | opcode::STATFS
             | opcode::INIT
             | opcode::OPENDIR

@@ -1,10 +1,10 @@
 //! Which node a name is shown by.
 ghost use Rattle.std.specs.Prelude.{◌≡◌, ◌≤◌, ◌-◌, IsSome, IfSome};
 ghost use Rattle.std.specs.FinMap as fin;
-ghost use Rattle.std.specs.Option.{option_map_or};
 ghost use Rattle.mount_rules.specs.Attributes as attributes;
 ghost use Rattle.mount_rules.specs.Showing as spec;
-ghost use Rattle.inode_spec.specs.Inodes.{file_of, granted, with_file};
+ghost use Rattle.mount_rules.specs.Standing.{refreshed_at};
+ghost use Rattle.inode_spec.specs.Inodes.{granted};
 
 use crate::attributes::entry_of;
 use crate::file::File;
@@ -61,8 +61,8 @@ fn shown_again(nodes: &InodeTable<File>, name: &Text, meta: &Meta, moment: u64) 
 }
 
 /// Lets the file of a node know that its own generation was shown at this moment, if it was.
-fn refresh(nodes: &mut InodeTable<File>, number: u64, meta: Meta, moment: u64)
-    ensures table { nodes.new.table ≡ option_map_or (λ file. with_file nodes.old.table number (spec.refreshed meta moment file)) (file_of nodes.old.table number) nodes.old.table }
+pub(crate) fn refresh(nodes: &mut InodeTable<File>, number: u64, meta: Meta, moment: u64)
+    ensures table { nodes.new.table ≡ refreshed_at nodes.old.table number meta moment }
     ensures spare { nodes.new.spare ≡ nodes.old.spare }
 {
     if let Some(file) = nodes.file_mut(number) {

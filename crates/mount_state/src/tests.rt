@@ -1,13 +1,14 @@
 //! Requests that are performed on a mount. What is expected comes from outside: errno numbers of Linux, modes of `stat`,
 //! and lengths and types of directory entries as fuse.h and dirent.h have them.
-ghost use Rattle.std.specs.Prelude.{[]};
+ghost use Rattle.std.specs.Prelude.{◌≡◌, [], None};
 ghost use Rattle.fuse_requests.specs.Grammar.{without_spare};
 ghost use Rattle.mount_model.specs.declared.config.Config.{Config};
+ghost use Rattle.mount_rules.specs.Dispatch.{wants};
 ghost use Rattle.mount_rules.specs.Mount.{MountModel};
 ghost use Rattle.mount_state.specs.Spares.{Fills};
 
-use crate::Mount;
 use crate::entries::entries_from;
+use crate::{Base, Mount};
 use bucket_api::{Answer, Meta, Op};
 use fuse_replies::Reply;
 use fuse_requests::Request;
@@ -62,13 +63,14 @@ fn perform(
     request: &Request,
     seen: Row<Observation>,
 ) -> Result<Outcome, NoMemory>
-    requires { (config : Config) (held : MountModel) → Fills config held (without_spare request.now) seen.items [] }
+    requires items { (config : Config) (held : MountModel) → Fills config held (without_spare request.now) seen.items [] }
+    requires quiet { (held : MountModel) → wants held (without_spare request.now) ≡ None }
 {
     if let Some(errno) = mount.early(request) {
         return Ok(failed(errno));
     }
     let spare = mount.prepare(alloc, request)?;
-    let reply = mount.finish(request, spare, seen);
+    let reply = mount.finish(request, spare, seen, Base::empty(alloc));
     Ok(told(&reply))
 }
 
@@ -224,7 +226,7 @@ fn requests_are_judged<R: Abort + AllocGlobal>(mount: &mut Mount, rt: &R) -> Res
     assert_eq!(rt; refused(mount, rt.alloc(), 1, b".")?, Some(22));
     assert_eq!(rt; refused(mount, rt.alloc(), 2, b"foo")?, Some(116));
     assert_eq!(rt; refused_long(mount, rt.alloc())?, Some(36));
-    assert_eq!(rt; mount.early(&Request::Getattr { node: 1 }), Some(38));
+    assert_eq!(rt; mount.early(&Request::Readlink { node: 1 }), Some(38));
     assert_eq!(rt; mount.early(&Request::Fsyncdir { node: 1, fh: 1 }), Some(9));
     assert_eq!(rt; mount.early(&Request::Unknown { opcode: 1 }), Some(22));
     Ok(())

@@ -1,22 +1,31 @@
 -- The mount stays one, and has room for the spares that are still out.
-use Rattle.std.proofs.Common.{sym, ap, subst, ◌∙◌, arith}
+use Rattle.std.proofs.Common.{refl, sym, ap, subst, ◌∙◌, arith}
 use Rattle.fuse_requests.specs.Grammar.{without_spare}
-use Rattle.mount_rules.specs.Dispatch.{reply_to}
+use Rattle.mount_rules.specs.Dispatch.{reply_to, wants}
 use Rattle.mount_rules.specs.Mount.{IsMount}
+use Rattle.mount_rules.specs.Rules.{AtTake}
 use Rattle.mount_laws.proofs.RequestLaws.{stays_mount}
 use Rattle.mount_state.specs.Mounts.{MountState}
+use Rattle.mount_state.specs.Serving.{IsServedAt}
 use Rattle.mount_state.specs.Spares.{SpareState, need}
 use Rattle.mount_state.specs.Tables.{mount_of}
+use Rattle.mount_state.proofs.BaseLaws.{padded, padded_holds}
 use Rattle.mount_state.proofs.mount.Mount.finish.Goals as goal
 
 pub invariant_of-self : goal.invariant_of-self
 invariant_of-self c =
+    let request = without_spare c.args.request.now in
+    let at : AtTake = record { config = c.self.inside.config; second = 0; contents = padded c.args.base.first c.args.base.bytes } in
+    let served : IsServedAt c.self.inside.config (mount_of c.self.inside.tables) request c.args.base at = record {
+      settings = refl;
+      holds = padded_holds c.args.base.first c.args.base.bytes (wants (mount_of c.self.inside.tables) request);
+    } in
     let promised = ap (λ (s : MountState). s.promised) c.self.view_is in
     let needs = c.need-room.ensures ∙ ap (λ (s : SpareState). need s.provided) c.spare.view_is in
     let uses = c.finish-reply.ensures.uses in
     record {
-      mount = subst IsMount (sym (c.finish-reply.ensures.mount 0))
-          (stays_mount c.self.inside.config 0 (mount_of c.self.inside.tables) (without_spare c.args.request.now) c.args.seen.items c.self.invariant.mount);
+      mount = subst IsMount (sym (c.finish-reply.ensures.mount at served))
+          (stays_mount at (mount_of c.self.inside.tables) request c.args.seen.items c.self.invariant.mount);
       node_room = omega (arith, uses.nodes, c.self.invariant.node_room, promised, needs, c.requires.room);
       handle_room = omega (arith, uses.handles, c.self.invariant.handle_room, promised, needs, c.requires.room);
       numbers = omega (arith, uses.numbers, c.self.invariant.numbers, promised, needs, c.requires.room);
@@ -24,6 +33,7 @@ invariant_of-self c =
     }
 
 pub returns-clause-reply : goal.returns-clause-reply
-returns-clause-reply c = λ second.
-    c.finish-reply.ensures.reply second
-    ∙ ap (λ (s : MountState). reply_to s.config second s.mount (without_spare c.args.request.now) c.args.seen.items) c.self.view_is
+returns-clause-reply c = λ at served.
+    let request = without_spare c.args.request.now in
+    c.finish-reply.ensures.reply at (subst (λ (s : MountState). IsServedAt s.config s.mount request c.args.base at) (sym c.self.view_is) served)
+    ∙ ap (λ (s : MountState). reply_to at s.mount request c.args.seen.items) c.self.view_is

@@ -1,9 +1,8 @@
 -- A mount before its first request, with no spare out.
 use Rattle.std.proofs.Common.{◌≡◌, false, sym, ap, subst, arith}
 use Rattle.handle_table.specs.Handles.{Handles}
-use Rattle.mount_rules.specs.Mount.{IsMount, first_mount}
+use Rattle.mount_rules.specs.Mount.{IsMount}
 use Rattle.mount_laws.proofs.Mounts.{IsMount-first}
-use Rattle.mount_state.specs.Tables.{mount_of}
 use Rattle.mount_state.proofs.mount.Mount.new.Goals as goal
 
 pub invariant_of-result : goal.invariant_of-result
