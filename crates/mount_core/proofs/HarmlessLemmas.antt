@@ -1,11 +1,11 @@
 -- While an errand asks on, it has made nothing but look-ups, copies and lists; and so has a listing to its end.
-use Rattle.std.proofs.Common.{◌≡◌, ◌≢◌, ℕ, List, [], ◌∷◌, None, refl, OnErr, Result, Ok, Err}
+use Rattle.std.proofs.Common.{◌≢◌, ℕ, List, [], ◌∷◌, None, refl, OnErr, Result, Ok, Err}
 use Rattle.std.specs.List.{AllByRecursion}
 use Rattle.mount_core.specs.Errands.{IsListing, plan_of}
 use Rattle.mount_core.specs.Stores.{Counted}
 use Rattle.mount_core.specs.Walks.{Stops, StopsAsking, Walks}
 use Rattle.mount_core.specs.declared.errand.Errand.{Errand}
-use Rattle.mount_core.specs.declared.errand.Errand.TheVariants.{Nothing, Names}
+use Rattle.mount_core.specs.declared.errand.Errand.TheVariants.{Nothing, Names, Files}
 use Rattle.mount_core.proofs.WalkLemmas.{asks_first}
 use Rattle.mount_laws.proofs.Asking.{harmless_all}
 use Rattle.mount_laws.proofs.Requests.Lookup.{asks_harmless}
@@ -13,6 +13,7 @@ use Rattle.mount_laws.proofs.Requests.Opendir.{asks_lists}
 use Rattle.mount_model.specs.Observing.{Observed}
 use Rattle.mount_rules.specs.Laws.{Planned}
 use Rattle.mount_rules.specs.Plans.{IsHarmless, answers_of, done}
+use Rattle.plan_files.specs.declared.errand.FileErrand.TheVariants.{Attr, Source}
 use Rattle.plan_names.specs.declared.errand.NameErrand.TheVariants.{Lookup, Make, Opendir}
 
 abbrev AreHarmless : List Observed → Type 0
@@ -24,6 +25,9 @@ harmless_asking (Names (Lookup path suffix implicit)) second seen planned asks =
 harmless_asking (Names (Make name pairs)) second [] planned asks = tt
 harmless_asking (Names (Make name pairs)) second (o ∷ seen) planned asks = absurd (asks refl)
 harmless_asking (Names (Opendir prefix page)) second seen planned asks = harmless_all (plan_of (Names (Opendir prefix page)) second) (asks_lists prefix page None) seen planned
+harmless_asking (Files (Attr name)) second [] planned asks = tt
+harmless_asking (Files (Attr name)) second (o ∷ seen) planned asks = absurd (asks refl)
+harmless_asking (Files (Source name generation wanted)) second seen planned asks = absurd (asks refl)
 
 -- a walk that stopped on its way is short
 pub Stops-asking : (errand : Errand) (second : ℕ) (before after : Counted) → StopsAsking (plan_of errand second) before after → Stops (plan_of errand second) before after
@@ -45,6 +49,7 @@ Stops-listed (Names (Opendir prefix page)) second before after seen lists walked
 }
 Stops-listed (Names (Lookup path suffix implicit)) second before after seen lists walked = absurd lists
 Stops-listed (Names (Make name pairs)) second before after seen lists walked = absurd lists
+Stops-listed (Files errand) second before after seen lists walked = absurd lists
 Stops-listed Nothing second before after seen lists walked = absurd lists
 
 -- what holds of a want of memory holds of the result that tells it

@@ -1,5 +1,9 @@
 -- The lemmas that the proofs of `mount_core` cite.
+mod BaseLemmas
 mod ErrandLemmas
+mod FileLemmas
+pub mod FirstLemmas
+mod GoneLemmas
 mod HarmlessLemmas
 mod PageKeys
 mod SeenLemmas

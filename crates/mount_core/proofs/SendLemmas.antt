@@ -1,21 +1,22 @@
 -- What refuses a request is an errno that a reply may tell.
-use Rattle.std.proofs.Common.{◌≡◌, ◌≤◌, ℕ, Bool, true, false, List, Option, Some, None, refl, sym, subst, arith, nat_le, length, option_and_then}
+use Rattle.std.proofs.Common.{◌≡◌, ◌≤◌, ℕ, Bool, true, false, List, Option, Some, None, sym, subst, arith, nat_le, length, option_and_then}
 use Rattle.std.specs.Prelude.{not, ◌&&◌, if◌then◌else◌}
 use Rattle.std.specs.Option.{option_map_or}
 use Rattle.fuse_replies.specs.Errno.{ebadf, einval, enametoolong, enosys, enotdir, eproto, estale}
 use Rattle.fuse_requests.specs.declared.request.Request.{Request}
-use Rattle.fuse_requests.specs.declared.request.Request.TheVariants.{BatchForget, Create, Destroy, Forget, Fsyncdir, Init, Interrupt, Lookup, Opendir, Readdir, Releasedir, Statfs, Unknown}
+use Rattle.fuse_requests.specs.declared.request.Request.TheVariants.{BatchForget, Create, Destroy, Forget, Fsyncdir, Getattr, Init, Interrupt, Lookup, Opendir, Opening, Read, Readdir, Releasedir, Statfs, Unknown}
 use Rattle.handle_table.specs.Handles.{Opened}
-use Rattle.mount_rules.specs.Dispatch.{early, is_among, is_init, is_silent, rules_of, served_opcodes, silent_opcodes, unread, view_in}
-use Rattle.mount_rules.specs.Guards.{entries_opened, errno_of_fault, in_directory, is_directory, on_live, on_open_directory, part_refusal}
+use Rattle.mount_rules.specs.Dispatch.{early, is_among, is_init, is_silent, rules_of, served_opcodes, silent_opcodes, view_in}
+use Rattle.mount_rules.specs.Guards.{entries_opened, errno_of_fault, in_directory, file_opened, is_directory, longest_read, on_file, on_live, on_open_directory, on_open_file, part_refusal, size_refusal}
 use Rattle.mount_rules.specs.Mount.{MountModel}
-use Rattle.mount_rules.specs.Requests.Readdir as readdir
 use Rattle.mount_rules.specs.View.{Sight, View, child_of}
 use Rattle.object_names.specs.Components.{name_fault}
 use Rattle.object_names.specs.Paths.{bare_name, path_max}
 use Rattle.object_names.specs.declared.component.NameFault.{NameFault}
 use Rattle.object_names.specs.declared.component.NameFault.TheVariants.{TooLong}
 use Rattle.object_names.specs.declared.shown.DirItem.{DirItem}
+use Rattle.object_names.specs.declared.shown.NodeKind.{NodeKind}
+use Rattle.object_names.specs.declared.shown.NodeKind.TheVariants.{Dir, File, Symlink}
 
 -- no error, or one that a reply may tell
 abbrev IsTold : Option ℕ → Type 0
@@ -56,9 +57,29 @@ on_open_directory-told node handle next tells = by (option_and_then (entries_ope
     by None = (omega arith, omega arith)
     by (Some items) = tells items
 
-readdir-told : (small : Bool) → IsTold (if small then None else Some einval)
-readdir-told true = tt
-readdir-told false = (omega arith, omega arith)
+on_live-told : (seen : Option Sight) (next : Sight → Option ℕ) → ((sight : Sight) → IsTold (next sight)) → IsTold (on_live seen next)
+on_live-told None next tells = (omega arith, omega arith)
+on_live-told (Some sight) next tells = by sight.live
+  where
+    by : (live : Bool) → IsTold (if live then next sight else Some estale)
+    by true = tells sight
+    by false = (omega arith, omega arith)
+
+on_file-told : (kind : NodeKind) → IsTold (on_file kind None)
+on_file-told Dir = (omega arith, omega arith)
+on_file-told Symlink = (omega arith, omega arith)
+on_file-told File = tt
+
+on_open_file-told : (node : ℕ) (view : View) (next : Sight → Option ℕ) → ((sight : Sight) → IsTold (next sight)) → IsTold (on_open_file node view next)
+on_open_file-told node view next tells = by (file_opened node view)
+  where
+    by : (seen : Option Sight) → IsTold (option_map_or next seen (Some ebadf))
+    by None = (omega arith, omega arith)
+    by (Some sight) = tells sight
+
+size-told : (small : Bool) → IsTold (if small then None else Some einval)
+size-told true = tt
+size-told false = (omega arith, omega arith)
 
 unread-told : (silent served : Bool) → IsTold (if silent then None else if served then Some einval else Some enosys)
 unread-told true served = tt
@@ -70,7 +91,10 @@ refusal-told (Lookup node name) view = in_directory-told view.node (part_refusal
 refusal-told (Create node name) view = in_directory-told view.node (part_refusal name) (part_refusal-told name)
 refusal-told (Opendir node) view = in_directory-told view.node (λ directory. None) (λ directory. tt)
 refusal-told (Readdir node fh first size) view =
-    on_open_directory-told node view.handle (λ entries. if nat_le size readdir.longest_read then None else Some einval) (λ entries. readdir-told (nat_le size readdir.longest_read))
+    on_open_directory-told node view.handle (λ entries. size_refusal size) (λ entries. size-told (nat_le size longest_read))
+refusal-told (Getattr node) view = on_live-told view.node (λ sight. None) (λ sight. tt)
+refusal-told (Opening node flags) view = on_live-told view.node (λ sight. on_file sight.kind None) (λ sight. on_file-told sight.kind)
+refusal-told (Read node fh first size) view = on_open_file-told node view (λ file. size_refusal size) (λ file. size-told (nat_le size longest_read))
 refusal-told (Releasedir node fh) view = on_open_directory-told node view.handle (λ entries. None) (λ entries. tt)
 refusal-told (Fsyncdir node fh) view = on_open_directory-told node view.handle (λ entries. None) (λ entries. tt)
 refusal-told (Init major minor readahead flags) view = tt

@@ -3,7 +3,8 @@ use Rattle.std.proofs.Common.{◌≡◌, ◌≢◌, ◌+◌, ℕ, List, [], ◌�
 use Rattle.bucket_api.proofs.LogLaws.{state_at-pushed}
 use Rattle.bucket_api.specs.BucketState.{IsBucket}
 use Rattle.bucket_api.specs.BucketStep.{answer_to, state_after}
-use Rattle.bucket_api.specs.Operation.{Operation}
+use Rattle.std.proofs.lemmas.List.Elements.{All-append, All-cons, All-nil}
+use Rattle.bucket_api.specs.Operation.{Operation, IsAllowed}
 use Rattle.bucket_api.specs.declared.answers.Answer.{Answer}
 use Rattle.bucket_api.specs.declared.events.Mode.TheVariants as modes
 use Rattle.mount_core.specs.Stores.{Counted, LeavesBucket}
@@ -12,7 +13,8 @@ use Rattle.mount_core.proofs.PageKeys.{answer_told}
 use Rattle.mount_model.specs.Observing.{Observed, finish, make}
 use Rattle.mount_rules.specs.Laws.{Planned}
 use Rattle.mount_rules.specs.OneThread.{Answers, Observes, Store, after_operation, after_operations}
-use Rattle.mount_rules.specs.Plans.{Allows, MayEnd, Plan, Step, answers_of, ask, asked_by, done, may_read, plan_after}
+use Rattle.mount_core.specs.Errands.{AsksAs}
+use Rattle.mount_rules.specs.Plans.{Allows, Completes, MayEnd, Plan, Step, answers_of, ask, asked_by, done, may_read, plan_after, without_reads}
 use Rattle.plan_names.specs.Errands.{Asked, IsTold, next_of}
 
 -- answers of what was observed, with one more
@@ -31,8 +33,11 @@ observes_more plan store [] o observed here = (here, tt)
 observes_more plan store (p ∷ seen) o observed here = (observed.0, observes_more (plan_after plan p.answer) (after_operation store p.op) seen o observed.1 here)
 
 -- the log with one more operation leaves what the operation leaves
-leaves_more : (store : Store) (before : Counted) (op : Operation) → LeavesBucket store before → LeavesBucket (after_operation store op) (left_by before op)
-leaves_more store before op leaves = record {
+leaves_more : (store : Store) (before : Counted) (op : Operation) → IsAllowed op → LeavesBucket store before → LeavesBucket (after_operation store op) (left_by before op)
+leaves_more store before op may leaves = record {
+  start = leaves.start;
+  allowed = All-append (λ e. IsAllowed e.op) store.log (record { lane = 1; op = op; mode = modes.Done } ∷ []) leaves.allowed
+      (All-cons (λ e. IsAllowed e.op) (record { lane = 1; op = op; mode = modes.Done }) [] may (All-nil (λ e. IsAllowed e.op)));
   bucket = ap (state_after op) leaves.bucket ∙ sym (state_at-pushed store.start store.log (record { lane = 1; op = op; mode = modes.Done }));
   made = let was : before.made ≡ length store.log = leaves.made in omega (arith, length-append store.log (record { lane = 1; op = op; mode = modes.Done } ∷ []));
 }
@@ -64,7 +69,7 @@ Walks-more plan start before after seen more walked next store leaves =
     } in
     let left : LeavesBucket (after_operations store (seen ++ o ∷ [])) after =
     subst (λ s. LeavesBucket s after) (sym (after_operations-append store seen o))
-    (subst (λ a. LeavesBucket (after_operation was next.op) a) (sym next.left) (leaves_more was before next.op here)) in
+    (subst (λ a. LeavesBucket (after_operation was next.op) a) (sym next.left) (leaves_more was before next.op next.allowed here)) in
     subst (λ m. Observes plan store m × LeavesBucket (after_operations store m) after) (sym next.observed)
     (observes_more plan store seen o (walked store leaves).0 answered, left)
 
@@ -95,6 +100,32 @@ pub ends_next : (step : Step) → finish ≡ next_of step → MayEnd step
 ends_next done is = tt
 ends_next (ask asked) is = cc
 ends_next (may_read source step) is = ends_next step is
+
+-- ---- reads left out
+asked_without : (step : Step) → asked_by (without_reads step) ≡ asked_by step
+asked_without done = refl
+asked_without (ask op) = refl
+asked_without (may_read source step) = asked_without step
+
+ends_without : (step : Step) → MayEnd (without_reads step) → MayEnd step
+ends_without done ends = ends
+ends_without (ask op) ends = ends
+ends_without (may_read source step) ends = ends_without step ends
+
+-- what was observed along a plan was observed along one that asks the same
+pub Observes-asked : (asked plan : Plan) → AsksAs asked plan → (store : Store) (seen : List Observed) → Observes asked store seen → Observes plan store seen
+Observes-asked asked plan is store [] observed = tt
+Observes-asked asked plan is store (o ∷ seen) observed = (
+  record { asked = sym (ap asked_by (is []) ∙ asked_without (plan [])) ∙ observed.0.asked; moment = observed.0.moment; answer = observed.0.answer },
+  Observes-asked (plan_after asked o.answer) (plan_after plan o.answer) (λ answers. is (o.answer ∷ answers)) (after_operation store o.op) seen observed.1,
+)
+
+pub Completes-asked : (asked plan : Plan) → AsksAs asked plan → (seen : List Observed) → Completes asked seen → Completes plan seen
+Completes-asked asked plan is seen ends = ends_without (plan (answers_of seen)) (subst MayEnd (is (answers_of seen)) ends)
+
+-- a plan asks something where one that asks the same does
+pub asks_too : (asked plan : Plan) → AsksAs asked plan → asked [] ≢ done → plan [] ≢ done
+asks_too asked plan is asks e = asks (is [] ∙ ap without_reads e)
 
 -- ---- from the walk to the laws
 allows : (step : Step) (op : Operation) → asked_by step ≡ Some op → Allows step op

@@ -1,4 +1,5 @@
 -- The words that the contracts of `mount_core` cite.
+pub mod Bases
 pub mod Codes
 pub mod Errands
 pub mod SeenList

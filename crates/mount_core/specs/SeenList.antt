@@ -1,22 +1,13 @@
--- What a request has observed, kept as operations with their moments beside their answers.
+-- What a request has observed, kept as what was made beside its answers.
 use Rattle.std.specs.Prelude.{ℕ, List, [], ◌∷◌}
 use Rattle.bucket_api.specs.declared.answers.Answer.{Answer}
-use Rattle.bucket_api.specs.Operation.{Operation}
 use Rattle.mount_model.specs.Observing.{Observed}
 
--- an operation that was made, and its moment in the bucket's log
-pub record MadeOperation : Type 0 where
-  pub op : Operation
-  pub moment : ℕ
-
-abbrev pub observed_by : MadeOperation → Answer → Observed
-observed_by made answer = record { op = made.op; moment = made.moment; answer = answer }
-
--- each operation with its answer
-abbrev pub observed : List MadeOperation → List Answer → List Observed
-observed [] answers = []
-observed (m ∷ made) [] = []
-observed (m ∷ made) (a ∷ answers) = observed_by m a ∷ observed made answers
+-- what was made, each with its answer
+abbrev pub with_answers : List Answer → List Observed → List Observed
+with_answers [] made = made
+with_answers (a ∷ answers) [] = []
+with_answers (a ∷ answers) (o ∷ made) = record o { answer = a } ∷ with_answers answers made
 
 -- what was observed, and for how many more there is room
 pub record SeenList : Type 0 where

@@ -6,6 +6,7 @@ use Rattle.fuse_requests.specs.declared.request.Request.{Request}
 use Rattle.mount_core.specs.Stores.{Counted, LeavesBucket}
 use Rattle.mount_model.specs.Configs.{IsConfig}
 use Rattle.mount_model.specs.declared.config.Config.{Config}
+use Rattle.mount_rules.specs.Laws.{FilesHaveContent}
 use Rattle.mount_rules.specs.Mount.{MountModel, first_mount}
 use Rattle.mount_rules.specs.OneThread.{Performs, RunState}
 use Rattle.mount_state.specs.Mounts.{MountState}
@@ -21,10 +22,12 @@ pub record SerialState : Type 0 where
 abbrev pub first_serial : Config → BucketState → SerialState
 first_serial config bucket = record { config = config; mount = first_mount; store = record { bucket = bucket; made = 0 } }
 
--- a run came to this mount, by a log that leaves this bucket
+-- A run came to this mount, by a log that leaves this bucket. What the files show was live in it, with content of their
+-- sizes.
 pub record CameTo (run : RunState) (serial : SerialState) : Type 0 where
   pub mount : serial.mount ≡ run.mount
   pub store : LeavesBucket run.store serial.store
+  pub files : FilesHaveContent run
 
 -- one more request of a run is performed, or ends otherwise, and what it leaves came to this
 pub record GoesOn (run : RunState) (config : Config) (request : Request) (answer : Reply) (after : SerialState) : Type 0 where
@@ -36,8 +39,10 @@ pub record GoesOn (run : RunState) (config : Config) (request : Request) (answer
 abbrev pub ServesOne : SerialState → Request → Reply → SerialState → Type 0
 ServesOne before request answer after = (run : RunState) → CameTo run before → GoesOn run before.config request answer after
 
--- the settings are in their ranges and the mount's, and no request is under way
-pub record IsSerial (config : Config) (mount : MountState) : Type 0 where
+-- the settings are in their ranges and the mount's, no request is under way, and some run came to it
+pub record IsSerial (config : Config) (mount : MountState) (store : Counted) : Type 0 where
   pub settings : IsConfig config
   pub same : mount.config ≡ config
   pub idle : mount.promised ≡ 0
+  pub run : RunState
+  pub came : CameTo run (record { config = config; mount = mount.mount; store = store })

@@ -1,9 +1,9 @@
 -- A walk along a plan on the bucket of a mount on one thread, which keeps no log: what is said of it is said of every log
 -- that leaves the bucket.
-use Rattle.std.specs.Prelude.{◌≡◌, ◌≢◌, ◌<◌, ◌+◌, ℕ, Bool, true, false, List, [], ◌∷◌, ◌++◌, Some}
+use Rattle.std.specs.Prelude.{◌≡◌, ◌≢◌, ◌<◌, ◌+◌, Bool, true, false, List, [], ◌∷◌, ◌++◌, Some}
 use Rattle.std.specs.List.{AllByRecursion}
 use Rattle.bucket_api.specs.BucketStep.{answer_to, state_after}
-use Rattle.bucket_api.specs.Operation.{Operation}
+use Rattle.bucket_api.specs.Operation.{Operation, IsAllowed}
 use Rattle.mount_core.specs.Stores.{Counted, LeavesBucket, most}
 use Rattle.mount_model.specs.Observing.{Observed}
 use Rattle.mount_rules.specs.Laws.{Planned}
@@ -27,6 +27,7 @@ left_by before op = record { bucket = state_after op before.bucket; made = befor
 pub record MakesNext (plan : Plan) (before : Counted) (seen : List Observed) (after : Counted) (more : List Observed) : Type 0 where
   pub op : Operation
   pub asked : asked_by (plan (answers_of seen)) ≡ Some op
+  pub allowed : IsAllowed op
   pub observed : more ≡ seen ++ observed_on before op ∷ []
   pub left : after ≡ left_by before op
   pub bounded : before.made < most

@@ -1,33 +1,39 @@
 //! What a request has to do on its bucket.
-ghost use Rattle.std.specs.Prelude.{◌≡◌, ◌≢◌, ◌≤◌, ℕ, List, [], None, IfOk, IfSome, OnOk, OnErr};
+ghost use Rattle.std.specs.Prelude.{◌≡◌, ◌≢◌, ◌≤◌, ℕ, List, [], None, IfOk, IfSome, IsSome, OnOk, OnErr, option_map};
 ghost use Rattle.std.specs.List.{filter_map};
 ghost use Rattle.dir_listing.specs.Pages.{with_pages};
 ghost use Rattle.fuse_requests.specs.Grammar.{without_spare};
-ghost use Rattle.mount_core.specs.Errands.{plan_of, HoldsEntries, IsErrand, IsListing};
+ghost use Rattle.bucket_api.specs.Operation.{operation, IsAllowed};
+ghost use Rattle.mount_core.specs.Errands.{plan_of, wanted_of, AsksAs, HoldsEntries, IsErrand, IsListing};
 ghost use Rattle.mount_model.specs.Configs.{IsConfig};
 ghost use Rattle.mount_model.specs.Observing.{next_step, Observed};
-ghost use Rattle.mount_rules.specs.Dispatch.{early, plan, view_in};
+ghost use Rattle.mount_rules.specs.Dispatch.{early, plan, view_in, wants};
 ghost use Rattle.mount_rules.specs.Guards as guards;
 ghost use Rattle.mount_rules.specs.Making as making;
 ghost use Rattle.mount_rules.specs.Plans.{answers_of, done};
 ghost use Rattle.mount_rules.specs.Requests.Create as create;
 ghost use Rattle.mount_rules.specs.Requests.Lookup as lookup;
 ghost use Rattle.mount_rules.specs.Requests.Opendir as opendir;
-ghost use Rattle.mount_rules.specs.Rules.{at_node};
-ghost use Rattle.mount_rules.specs.View.{sight_at, view_of};
+ghost use Rattle.mount_rules.specs.Requests.Read as reading;
+ghost use Rattle.mount_rules.specs.Rules.{at_handle, at_node, AtTake};
+ghost use Rattle.mount_rules.specs.Standing as standing;
+ghost use Rattle.mount_rules.specs.View.{sight_at, view_of, View};
 ghost use Rattle.mount_state.specs.Spares.{Fills};
 ghost use Rattle.object_names.specs.Paths.{has_suffix, IsPath};
 ghost use Rattle.object_names.specs.declared.shown.DirItem.{DirItem};
+ghost use Rattle.plan_files.specs.Errands.{read_of};
 ghost use Rattle.plan_names.specs.Errands.{next_of, Asked, MayMake};
 
-use bucket_api::Answer;
+use bucket_api::{Answer, Op};
 use dir_listing::Listing;
 use fuse_requests::Request;
 use io_ports::{NoMemory, Row, Text};
 use mount_model::{Config, Next};
 use mount_state::Mount;
-use object_names::{DirItem, component_text, strip_suffix};
-use plan_names::{NameErrand, next_op};
+use object_names::{DirItem, NodeKind, component_text, strip_suffix};
+use plan_files::FileErrand;
+use plan_names::NameErrand;
+use staged_file::Wanted;
 use std::alloc::Global;
 
 /// What a request has to do on its bucket, as plain data made from what it sees at its take.
@@ -37,6 +43,8 @@ pub(crate) enum Errand {
     Nothing,
     /// An errand on names.
     Names(NameErrand),
+    /// An errand on a file.
+    Files(FileErrand),
 }
 
 impl Errand {
@@ -49,7 +57,8 @@ impl Errand {
     ) -> Result<Errand, NoMemory>
         requires config { IsConfig config.now }
         requires free { early mount.now.mount (without_spare request.now) ≡ None }
-        ensures plan { IfOk result (λ errand. (second : ℕ) → plan_of errand second ≡ plan config.now second mount.now.mount (without_spare request.now)) }
+        ensures plan { IfOk result (λ errand. (at : AtTake) → at.config ≡ config.now → AsksAs (plan_of errand at.second) (plan at mount.now.mount (without_spare request.now))) }
+        ensures wanted { IfOk result (λ errand. wanted_of errand ≡ wants mount.now.mount (without_spare request.now)) }
         ensures errand { IfOk result IsErrand }
         ensures entries { IfOk result (λ errand. (seen : List Observed) (items : List DirItem) → HoldsEntries errand config.now.implicit_dirs (answers_of seen) items → Fills config.now mount.now.mount (without_spare request.now) seen items) }
     {
@@ -57,11 +66,33 @@ impl Errand {
             Request::Lookup { node, name } => look_up(alloc, config, mount, *node, name.as_slice()),
             Request::Create { node, name } => make(alloc, mount, *node, name.as_slice()),
             Request::Opendir { node } => list(alloc, config, mount, *node),
+            Request::Getattr { node } | Request::Opening { node, .. } => ask(alloc, mount, *node),
+            Request::Read {
+                node,
+                fh,
+                first,
+                size,
+            } => read(alloc, mount, *node, *fh, *first, *size),
             _ => Ok(Errand::Nothing),
         }
     }
 
-    /// What the errand asks next, after it was answered so; `second` stamps what it makes.
+    /// The read of all that the errand wants of a source; none where it wants nothing. `NoMemory` comes only where it wants
+    /// something.
+    pub(crate) fn read_op(&self, alloc: Global) -> Result<Option<Op>, NoMemory>
+        requires { IsErrand self.now }
+        ensures ok { IfOk result (λ found. option_map operation found ≡ option_map read_of (wanted_of self.now)) }
+        ensures may { IfOk result (λ found. IfSome found (λ op. IsAllowed (operation op))) }
+        ensures err { OnErr result (IsSome (wanted_of self.now)) }
+    {
+        match self {
+            Errand::Files(errand) => plan_files::read_op(alloc, errand),
+            _ => Ok(None),
+        }
+    }
+
+    /// What the errand asks next, after it was answered so; `second` stamps what it makes. What it wants of a source was
+    /// read before.
     pub(crate) fn next_op(
         &self,
         alloc: Global,
@@ -75,8 +106,9 @@ impl Errand {
         ensures err { OnErr result (plan_of self.now second answers.now ≢ done) }
     {
         match self {
-            Errand::Nothing => Ok(Next::Finish),
-            Errand::Names(errand) => next_op(alloc, errand, second, answers),
+            Errand::Nothing | Errand::Files(FileErrand::Source { .. }) => Ok(Next::Finish),
+            Errand::Names(errand) => plan_names::next_op(alloc, errand, second, answers),
+            Errand::Files(errand) => plan_files::next_op(alloc, errand, answers),
         }
     }
 
@@ -121,6 +153,7 @@ fn look_up(
     name: &[u8],
 ) -> Result<Errand, NoMemory>
     requires { lookup.refusal name.now (view_of mount.now.mount (at_node node)) ≡ None }
+    ensures wanted { IfOk result (λ errand. wanted_of errand ≡ None) }
     ensures plan { IfOk result (λ errand. (second : ℕ) → plan_of errand second ≡ lookup.plan config.now.implicit_dirs (lookup.path_of name.now (view_of mount.now.mount (at_node node))) (has_suffix name.now)) }
     ensures errand { IfOk result IsErrand }
 {
@@ -136,6 +169,7 @@ fn look_up(
 /// CREATE: makes an empty object of the path of a name, without metadata.
 fn make(alloc: Global, mount: &Mount, node: u64, name: &[u8]) -> Result<Errand, NoMemory>
     requires { create.refusal name.now (view_of mount.now.mount (at_node node)) ≡ None }
+    ensures wanted { IfOk result (λ errand. wanted_of errand ≡ None) }
     ensures plan { IfOk result (λ errand. (second : ℕ) → plan_of errand second ≡ making.plan (create.path_of name.now (view_of mount.now.mount (at_node node))) [] second) }
     ensures errand { IfOk result IsErrand }
 {
@@ -150,6 +184,7 @@ fn make(alloc: Global, mount: &Mount, node: u64, name: &[u8]) -> Result<Errand, 
 fn list(alloc: Global, config: &Config, mount: &Mount, node: u64) -> Result<Errand, NoMemory>
     requires page { 1 ≤ config.now.list_page }
     requires free { opendir.refusal (view_of mount.now.mount (at_node node)) ≡ None }
+    ensures wanted { IfOk result (λ errand. wanted_of errand ≡ None) }
     ensures plan { IfOk result (λ errand. (second : ℕ) → plan_of errand second ≡ opendir.plan (opendir.prefix_of (view_of mount.now.mount (at_node node))) config.now.list_page None) }
     ensures errand { IfOk result IsErrand }
     ensures entries { IfOk result (λ errand. (told : List Answer) (items : List DirItem) → HoldsEntries errand config.now.implicit_dirs told items → IfSome (opendir.entries (opendir.prefix_of (view_of mount.now.mount (at_node node))) config.now.implicit_dirs told) (λ entries. items ≡ entries)) }
@@ -161,6 +196,51 @@ fn list(alloc: Global, config: &Config, mount: &Mount, node: u64) -> Result<Erra
     Ok(Errand::Names(NameErrand::Opendir {
         prefix,
         page: config.list_page,
+    }))
+}
+
+/// GETATTR and OPEN: asks for the object of a file or symlink; a directory has none of its own.
+fn ask(alloc: Global, mount: &Mount, node: u64) -> Result<Errand, NoMemory>
+    ensures plan { IfOk result (λ errand. (second : ℕ) → AsksAs (plan_of errand second) (standing.plan (standing.asked_name (view_of mount.now.mount (at_node node))))) }
+    ensures wanted { IfOk result (λ errand. wanted_of errand ≡ None) }
+    ensures errand { IfOk result IsErrand }
+{
+    let Some(inode) = mount.nodes().get(node) else {
+        return Ok(Errand::Nothing);
+    };
+    if let NodeKind::Dir = inode.kind {
+        return Ok(Errand::Nothing);
+    }
+    Ok(Errand::Files(FileErrand::Attr {
+        name: inode.name.copy(alloc)?,
+    }))
+}
+
+/// READ: reads the bytes asked that lie in the content of an open file.
+fn read(
+    alloc: Global,
+    mount: &Mount,
+    node: u64,
+    fh: u64,
+    first: u64,
+    size: u32,
+) -> Result<Errand, NoMemory>
+    requires { reading.refusal node size (view_of mount.now.mount (at_handle node fh)) ≡ None }
+    ensures plan { IfOk result (λ errand. (second : ℕ) → (view : View) → AsksAs (plan_of errand second) (reading.plan view)) }
+    ensures wanted { IfOk result (λ errand. wanted_of errand ≡ reading.wanted first size (sight_at mount.now.mount.table node)) }
+    ensures errand { IfOk result IsErrand }
+{
+    let Some(inode) = mount.nodes().get(node) else {
+        return Ok(Errand::Nothing);
+    };
+    let Some(file) = &inode.file else {
+        return Ok(Errand::Nothing);
+    };
+    let count = file.size.saturating_sub(first).min(size as u64);
+    Ok(Errand::Files(FileErrand::Source {
+        name: inode.name.copy(alloc)?,
+        generation: file.source,
+        wanted: Wanted { first, count },
     }))
 }
 

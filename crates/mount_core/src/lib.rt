@@ -1,11 +1,15 @@
 //! The mount on one thread: each request asks its bucket at once, and is done before the next one.
 #![tactic(auto)]
 
+mod base;
 mod errand;
 mod observe;
 mod seen;
 mod serial;
+mod stopped;
 mod store;
+#[cfg(test)]
+mod tests;
 mod walk;
 
 pub use serial::Serial;

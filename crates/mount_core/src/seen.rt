@@ -1,8 +1,8 @@
 //! What a request has observed of its bucket so far.
-ghost use Rattle.std.specs.Prelude.{◌≡◌, ◌≤◌, ◌-◌, ◌++◌, ◌∷◌, [], length, OnOk, OnErr};
+ghost use Rattle.std.specs.Prelude.{◌≡◌, ◌≤◌, ◌++◌, ◌∷◌, [], length, OnOk};
 ghost use Rattle.bucket_api.specs.Operation.{operation};
 ghost use Rattle.mount_rules.specs.Plans.{answers_of};
-ghost use Rattle.mount_core.specs.SeenList.{observed};
+ghost use Rattle.mount_core.specs.SeenList.{with_answers};
 
 use bucket_api::{Answer, Op};
 use io_ports::{NoMemory, Row};
@@ -10,43 +10,25 @@ use mount_model::Observation;
 use std::alloc::Global;
 use std::marker::Model;
 
-/// An operation that was made, and its moment in the bucket's log, from 1.
-#[derive(Drop)]
-struct MadeOp {
-    op: Op,
-    moment: u64,
-}
-
-impl Model for MadeOp {
-    ghost use Rattle.mount_core.specs.SeenList.{MadeOperation};
-
-    ghost Value = { MadeOperation };
-
-    ghost use Rattle.bucket_api.specs.Operation.{operation};
-
-    ghost view = { λ m. record { op = operation m.op; moment = m.moment } };
-}
-
 /// What a request has observed so far, in order, and room for more. The answers stand by themselves, as a plan reads
-/// them. Contracts see the observations and for how many more there is room.
+/// them; each is put into its observation once all are known, and until then a fault holds its place. Contracts see the
+/// observations and for how many more there is room.
 #[derive(Drop)]
 pub(crate) struct Seen {
-    made: Row<MadeOp>,
+    made: Row<Observation>,
     answers: Row<Answer>,
-    /// Room for what is handed on at the end.
-    handed_on: Row<Observation>,
     room: u64,
 }
 
 impl Model for Seen {
-    ghost use Rattle.mount_core.specs.SeenList.{SeenList, observed};
+    ghost use Rattle.mount_core.specs.SeenList.{SeenList, with_answers};
     ghost use Rattle.mount_core.specs.SeenRows.{HoldsSeen};
 
     ghost Value = { SeenList };
 
-    ghost view = { λ s. record { items = observed s.made.items s.answers.items; spare = s.room } };
+    ghost view = { λ s. record { items = with_answers s.answers.items s.made.items; spare = s.room } };
 
-    ghost invariant = { λ s. HoldsSeen s.made s.answers s.handed_on s.room };
+    ghost invariant = { λ s. HoldsSeen s.made s.answers s.room };
 }
 
 impl Seen {
@@ -57,7 +39,6 @@ impl Seen {
         Seen {
             made: Row::new(alloc),
             answers: Row::new(alloc),
-            handed_on: Row::new(alloc),
             room: 0,
         }
     }
@@ -67,12 +48,8 @@ impl Seen {
         ensures ok { OnOk result (1 ≤ self.new.spare) }
         ensures kept { self.new.items ≡ self.old.items }
     {
-        let Some(count) = self.made.len().checked_add(1) else {
-            return Err(NoMemory);
-        };
         self.made.reserve(1)?;
         self.answers.reserve(1)?;
-        self.handed_on.reserve(count)?;
         self.room = 1;
         Ok(())
     }
@@ -82,7 +59,11 @@ impl Seen {
         requires { 1 ≤ self.old.spare }
         ensures items { self.new.items ≡ self.old.items ++ record { op = operation op; moment = moment; answer = answer } ∷ [] }
     {
-        self.made.push(MadeOp { op, moment });
+        self.made.push(Observation {
+            op,
+            moment,
+            answer: Answer::Fault,
+        });
         self.answers.push(answer);
         self.room -= 1;
     }
@@ -101,30 +82,26 @@ impl Seen {
         let Seen {
             made,
             answers,
-            handed_on,
             room: _,
         } = self;
-        joined(made.into_vec(), answers.into_vec(), handed_on)
+        answered(made.into_vec(), answers.into_vec())
     }
 }
 
-/// Each operation with its answer, put into a row that has room for them.
-fn joined(made: Vec<MadeOp>, answers: Vec<Answer>, mut row: Row<Observation>) -> Row<Observation>
-    requires answered { length made.items ≡ length answers.items }
-    requires empty { row.items ≡ [] }
-    requires room { length made.items ≤ row.spare }
-    ensures { result.items ≡ observed made.items answers.items }
+/// What was made, each with its answer.
+fn answered(mut made: Vec<Observation>, mut answers: Vec<Answer>) -> Row<Observation>
+    requires { length made.items ≡ length answers.items }
+    ensures { result.items ≡ with_answers answers.items made.items }
 {
-    let mut answers = answers.into_iter();
-    for made in made {
-        let Some(answer) = answers.next() else {
-            unreachable!();
-        };
-        row.push(Observation {
-            op: made.op,
-            moment: made.moment,
-            answer,
-        });
+    while let Some(answer) = answers.pop() {
+        answer_by(&mut made[answers.len()], answer);
     }
-    row
+    Row::from_vec(made)
+}
+
+/// Puts an answer into its observation.
+fn answer_by(observation: &mut Observation, answer: Answer)
+    ensures { observation.new ≡ record observation.old { answer = answer } }
+{
+    observation.answer = answer;
 }

@@ -6,7 +6,7 @@ ghost use Rattle.fuse_requests.specs.Grammar.{without_spare};
 ghost use Rattle.mount_core.specs.Serials.{first_serial, ServesOne};
 ghost use Rattle.mount_model.specs.Configs.{IsConfig};
 ghost use Rattle.mount_rules.specs.Dispatch.{early};
-ghost use Rattle.mount_rules.specs.Laws.{CountsDecide, NumbersRise, ShortAreOutOfMemory};
+ghost use Rattle.mount_rules.specs.Laws.{CountsDecide, NumbersRise, ReadsAreOfSource, ShortAreOutOfMemory};
 ghost use Rattle.mount_rules.specs.OneThread.{second_of};
 
 use crate::errand::Errand;
@@ -15,7 +15,6 @@ use crate::store::Store;
 use bucket_plain::Plain;
 use file_metadata::LAST_SECOND;
 use fuse_replies::Reply;
-use fuse_replies::errno::ENOMEM;
 use fuse_requests::Request;
 use io_ports::NoMemory;
 use mount_model::Config;
@@ -43,7 +42,7 @@ impl Model for Serial {
 
     ghost view = { λ s. record { config = s.config; mount = s.mount.mount; store = s.store } };
 
-    ghost invariant = { λ s. IsSerial s.config s.mount };
+    ghost invariant = { λ s. IsSerial s.config s.mount s.store };
 }
 
 impl Serial {
@@ -54,10 +53,12 @@ impl Serial {
         requires within { IsWithin (2 ^ 62) bucket }
         ensures ok { IfOk result (λ serial. serial ≡ first_serial config.now bucket) }
         // What any list of calls then comes to: a node is live while the kernel holds look-ups of it, numbers are given
-        // once, and the calls answered ENOMEM are those that stopped short.
+        // once, the calls answered ENOMEM are those that stopped short, and bytes that are read are those of the file's
+        // source.
         ensures counts { OnOk result CountsDecide }
         ensures numbers { OnOk result NumbersRise }
         ensures short { OnOk result ShortAreOutOfMemory }
+        ensures reads { OnOk result ReadsAreOfSource }
     {
         Ok(Serial {
             config: *config,
@@ -68,7 +69,8 @@ impl Serial {
 
     /// Performs a request, as the mount on one thread does. `NoMemory` where memory for what the request may want at its
     /// end was refused; it leaves all as it was. Where memory is refused later, the request is answered ENOMEM, and has
-    /// made nothing but look-ups, copies and lists.
+    /// made nothing but look-ups, copies and lists. One that wants bytes of a generation which is live no more is answered
+    /// ESTALE.
     pub fn call(&mut self, alloc: Global, request: Request) -> Result<Reply, NoMemory>
         ensures ok { IfOk result (λ reply. ServesOne self.old (without_spare request) (reply_without_spare reply) self.new) }
         ensures sendable { IfOk result (λ reply. IsSendable (reply_without_spare reply)) }
@@ -108,10 +110,10 @@ impl Serial {
             &mut self.store,
             &mut spare,
         ) {
-            Ok(seen) => Ok(self.mount.finish(request, spare, seen)),
-            Err(NoMemory) => {
+            Ok((seen, base)) => Ok(self.mount.finish(request, spare, seen, base)),
+            Err(stopped) => {
                 self.mount.forgo(spare);
-                Ok(Reply::Error(ENOMEM))
+                Ok(Reply::Error(stopped.errno()))
             }
         }
     }

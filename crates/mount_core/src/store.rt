@@ -1,6 +1,6 @@
 //! The bucket of a mount on one thread.
 ghost use Rattle.std.specs.Prelude.{◌≡◌, ◌<◌, ◌≤◌, ◌+◌, ◌^◌, IfOk, OnOk, OnErr};
-ghost use Rattle.bucket_api.specs.BucketState.{IsBucket, IsWithin};
+ghost use Rattle.bucket_api.specs.BucketState.{BucketState, IsBucket, IsWithin};
 ghost use Rattle.bucket_api.specs.BucketStep.{answer_to, state_after};
 ghost use Rattle.bucket_api.specs.Operation.{operation, IsAllowed};
 ghost use Rattle.mount_core.specs.Stores.{most};
@@ -35,7 +35,8 @@ impl Store {
     /// A bucket on which no operation was made yet. Its generations and metagenerations are at most 2^62.
     pub(crate) fn new(bucket: Plain) -> Store
         requires within { IsWithin (2 ^ 62) bucket }
-        ensures { result ≡ record { bucket = bucket; made = 0 } }
+        ensures store { result ≡ record { bucket = bucket; made = 0 } }
+        ensures valid { IsBucket bucket }
     {
         bucket.last();
         Store { bucket, made: 0 }
@@ -57,6 +58,18 @@ impl Store {
         let answer = self.bucket.apply(alloc, op)?;
         self.made += 1;
         Ok((self.made, answer))
+    }
+
+    /// What the bucket, as it stands, answers an operation that changes nothing. It is not counted. `NoMemory` where memory
+    /// for the answer was refused.
+    pub(crate) fn look(&mut self, alloc: Global, op: &Op) -> Result<Answer, NoMemory>
+        requires may { IsAllowed (operation op.now) }
+        requires quiet { (b : BucketState) → state_after (operation op.now) b ≡ b }
+        ensures ok { IfOk result (λ answer. answer ≡ answer_to (operation op.now) self.old.bucket) }
+        ensures valid { IsBucket self.old.bucket }
+        ensures kept { self.new ≡ self.old }
+    {
+        self.bucket.apply(alloc, op)
     }
 
     /// The bucket as it stands.

@@ -1,12 +1,12 @@
 -- The plan's next operation is made, or the plan may end.
-use Rattle.std.proofs.Common.{◌≡◌, ap, subst, sym, refl, ◌∙◌}
+use Rattle.std.proofs.Common.{◌≡◌, ap, subst, refl, ◌∙◌}
 use Rattle.bucket_api.specs.Operation.{operation}
 use Rattle.mount_core.proofs.WalkLemmas.{Asked-more, asked_next, ends_next, observed_so}
 use Rattle.mount_core.specs.Errands.{plan_of}
 use Rattle.mount_core.specs.Walks.{MakesNext}
-use Rattle.mount_model.specs.Observing.{finish, make, next_step}
+use Rattle.mount_model.specs.Observing.{next_step}
 use Rattle.mount_rules.specs.Plans.{answers_of}
-use Rattle.plan_names.specs.Errands.{next_of}
+use Rattle.plan_names.specs.Errands.{MayMake, next_of}
 use Rattle.mount_core.proofs.walk.step.Goals as goal
 
 pub returns-in-Finish-clause-ok : goal.returns-in-Finish-clause-ok
@@ -24,6 +24,7 @@ returns-clause-ok c =
     let told : next_step c.in_ok-op.field-0 ≡ next_of step = c.in_ok-op.ensures.ok ∙ ap (λ answers. next_of (plan answers)) c.answers.ensures in
     record {
       op = op;
+      allowed = subst (λ n. MayMake (next_step n)) c.in-Do.is c.in_ok-op.ensures.may;
       asked = asked_next step op (subst (λ n. next_step n ≡ next_of step) c.in-Do.is told);
       observed = observed_so _ _ _ op c.in_ok-moment.moment c.in_ok-moment.answer c.args.store.now c.in_ok-reserve.ensures.kept c.push.ensures.items c.in_ok-moment.ensures.ok.0 c.in_ok-moment.ensures.ok.1;
       left = c.in_ok-moment.ensures.after;
@@ -39,6 +40,7 @@ returns-clause-told c =
     let next : MakesNext plan c.args.store.now c.args.seen.now.items c.make.new.self c.push.new.self.items =
     record {
       op = op;
+      allowed = subst (λ n. MayMake (next_step n)) c.in-Do.is c.in_ok-op.ensures.may;
       asked = asked_next step op (subst (λ n. next_step n ≡ next_of step) c.in-Do.is told);
       observed = observed_so _ _ _ op c.in_ok-moment.moment c.in_ok-moment.answer c.args.store.now c.in_ok-reserve.ensures.kept c.push.ensures.items c.in_ok-moment.ensures.ok.0 c.in_ok-moment.ensures.ok.1;
       left = c.in_ok-moment.ensures.after;

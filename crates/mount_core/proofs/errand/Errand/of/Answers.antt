@@ -2,17 +2,17 @@
 use Rattle.std.proofs.Common.{◌≡◌, ℕ, List, [], None, IfOk, refl, subst, sym}
 use Rattle.fuse_requests.specs.Grammar.{without_spare}
 use Rattle.fuse_requests.specs.declared.request.Request.{Request}
-use Rattle.fuse_requests.specs.declared.request.Request.TheVariants.{Create, Lookup, Opendir}
-use Rattle.mount_core.proofs.ErrandLemmas.{listed_so, plans_so}
-use Rattle.mount_core.specs.Errands.{HoldsEntries, plan_of}
+use Rattle.fuse_requests.specs.declared.request.Request.TheVariants.{Create, Lookup, Opendir, Read}
+use Rattle.mount_core.proofs.ErrandLemmas.{listed_so, lists_so, looks_so, makes_so, plans_so, reads_so}
+use Rattle.mount_core.specs.Errands.{AsksAs, HoldsEntries, plan_of}
 use Rattle.mount_model.specs.Observing.{Observed}
-use Rattle.mount_rules.specs.Dispatch.{early, plan, view_in}
+use Rattle.mount_rules.specs.Dispatch.{early, plan}
 use Rattle.mount_rules.specs.Making as making
 use Rattle.mount_rules.specs.Plans.{answers_of}
 use Rattle.mount_rules.specs.Requests.Create as create
 use Rattle.mount_rules.specs.Requests.Lookup as lookup
 use Rattle.mount_rules.specs.Requests.Opendir as opendir
-use Rattle.mount_rules.specs.Rules.{at_node}
+use Rattle.mount_rules.specs.Rules.{AtTake, at_handle, at_node}
 use Rattle.mount_rules.specs.View.{view_of}
 use Rattle.mount_state.specs.Spares.{Fills}
 use Rattle.object_names.specs.Paths.{has_suffix}
@@ -23,30 +23,35 @@ pub returns-in-Lookup-clause-plan : goal.returns-in-Lookup-clause-plan
 returns-in-Lookup-clause-plan c =
     let config = c.args.config.now in
     let mount = c.args.mount.now.mount in
+    let request = Lookup c.in-Lookup.node c.in-Lookup.name in
     let view = view_of mount (at_node c.in-Lookup.node) in
-    let free : early mount (Lookup c.in-Lookup.node c.in-Lookup.name) ≡ None = subst (λ (r : Request). early mount (without_spare r) ≡ None) c.in-Lookup.is c.requires.free in
-    subst (λ (r : Request). IfOk c.look_up.result (λ errand. (second : ℕ) → plan_of errand second ≡ plan config second mount (without_spare r))) (sym c.in-Lookup.is)
-    (plans_so c.look_up.result config mount (Lookup c.in-Lookup.node c.in-Lookup.name) (λ second. lookup.plan config.implicit_dirs (lookup.path_of c.in-Lookup.name view) (has_suffix c.in-Lookup.name)) refl free (λ second. refl)
-    (subst (λ (name : List ℕ). IfOk c.look_up.result (λ errand. (second : ℕ) → plan_of errand second ≡ lookup.plan config.implicit_dirs (lookup.path_of name view) (has_suffix name))) c.as_slice.ensures.bytes c.look_up.ensures.plan))
+    let free : early mount request ≡ None = subst (λ (r : Request). early mount (without_spare r) ≡ None) c.in-Lookup.is c.requires.free in
+    subst (λ (r : Request). IfOk c.look_up.result (λ errand. (at : AtTake) → at.config ≡ config → AsksAs (plan_of errand at.second) (plan at mount (without_spare r)))) (sym c.in-Lookup.is)
+    (plans_so c.look_up.result config mount request refl free
+    (looks_so c.look_up.result config (lookup.path_of c.in-Lookup.name view) (has_suffix c.in-Lookup.name)
+    (subst (λ (name : List ℕ). IfOk c.look_up.result (λ errand. (second : ℕ) → plan_of errand second ≡ lookup.plan config.implicit_dirs (lookup.path_of name view) (has_suffix name))) c.as_slice.ensures.bytes c.look_up.ensures.plan)))
 
 pub returns-in-Create-clause-plan : goal.returns-in-Create-clause-plan
 returns-in-Create-clause-plan c =
     let config = c.args.config.now in
     let mount = c.args.mount.now.mount in
+    let request = Create c.in-Create.node c.in-Create.name in
     let view = view_of mount (at_node c.in-Create.node) in
-    let free : early mount (Create c.in-Create.node c.in-Create.name) ≡ None = subst (λ (r : Request). early mount (without_spare r) ≡ None) c.in-Create.is c.requires.free in
-    subst (λ (r : Request). IfOk c.make.result (λ errand. (second : ℕ) → plan_of errand second ≡ plan config second mount (without_spare r))) (sym c.in-Create.is)
-    (plans_so c.make.result config mount (Create c.in-Create.node c.in-Create.name) (λ second. making.plan (create.path_of c.in-Create.name view) [] second) refl free (λ second. refl)
-    (subst (λ (name : List ℕ). IfOk c.make.result (λ errand. (second : ℕ) → plan_of errand second ≡ making.plan (create.path_of name view) [] second)) c.as_slice-in-Create.ensures.bytes c.make.ensures.plan))
+    let free : early mount request ≡ None = subst (λ (r : Request). early mount (without_spare r) ≡ None) c.in-Create.is c.requires.free in
+    subst (λ (r : Request). IfOk c.make.result (λ errand. (at : AtTake) → at.config ≡ config → AsksAs (plan_of errand at.second) (plan at mount (without_spare r)))) (sym c.in-Create.is)
+    (plans_so c.make.result config mount request refl free
+    (makes_so c.make.result config (create.path_of c.in-Create.name view)
+    (subst (λ (name : List ℕ). IfOk c.make.result (λ errand. (second : ℕ) → plan_of errand second ≡ making.plan (create.path_of name view) [] second)) c.as_slice-in-Create.ensures.bytes c.make.ensures.plan)))
 
 pub returns-in-Opendir-clause-plan : goal.returns-in-Opendir-clause-plan
 returns-in-Opendir-clause-plan c =
     let config = c.args.config.now in
     let mount = c.args.mount.now.mount in
-    let view = view_of mount (at_node c.in-Opendir.node) in
-    let free : early mount (Opendir c.in-Opendir.node) ≡ None = subst (λ (r : Request). early mount (without_spare r) ≡ None) c.in-Opendir.is c.requires.free in
-    subst (λ (r : Request). IfOk c.list.result (λ errand. (second : ℕ) → plan_of errand second ≡ plan config second mount (without_spare r))) (sym c.in-Opendir.is)
-    (plans_so c.list.result config mount (Opendir c.in-Opendir.node) (λ second. opendir.plan (opendir.prefix_of view) config.list_page None) refl free (λ second. refl) c.list.ensures.plan)
+    let request = Opendir c.in-Opendir.node in
+    let free : early mount request ≡ None = subst (λ (r : Request). early mount (without_spare r) ≡ None) c.in-Opendir.is c.requires.free in
+    subst (λ (r : Request). IfOk c.list.result (λ errand. (at : AtTake) → at.config ≡ config → AsksAs (plan_of errand at.second) (plan at mount (without_spare r)))) (sym c.in-Opendir.is)
+    (plans_so c.list.result config mount request refl free
+    (lists_so c.list.result config (opendir.prefix_of (view_of mount (at_node c.in-Opendir.node))) c.list.ensures.plan))
 
 pub returns-in-Opendir-clause-entries : goal.returns-in-Opendir-clause-entries
 returns-in-Opendir-clause-entries c =
@@ -54,3 +59,13 @@ returns-in-Opendir-clause-entries c =
     let mount = c.args.mount.now.mount in
     subst (λ (r : Request). IfOk c.list.result (λ errand. (seen : List Observed) (items : List DirItem) → HoldsEntries errand config.implicit_dirs (answers_of seen) items → Fills config mount (without_spare r) seen items)) (sym c.in-Opendir.is)
     (listed_so c.list.result config mount c.in-Opendir.node c.list.ensures.entries)
+
+pub returns-in-Read-clause-plan : goal.returns-in-Read-clause-plan
+returns-in-Read-clause-plan c =
+    let config = c.args.config.now in
+    let mount = c.args.mount.now.mount in
+    let request = Read c.in-Read.node c.in-Read.fh c.in-Read.first c.in-Read.size in
+    let view = view_of mount (at_handle c.in-Read.node c.in-Read.fh) in
+    let free : early mount request ≡ None = subst (λ (r : Request). early mount (without_spare r) ≡ None) c.in-Read.is c.requires.free in
+    subst (λ (r : Request). IfOk c.read.result (λ errand. (at : AtTake) → at.config ≡ config → AsksAs (plan_of errand at.second) (plan at mount (without_spare r)))) (sym c.in-Read.is)
+    (plans_so c.read.result config mount request refl free (reads_so c.read.result config view c.read.ensures.plan))

@@ -1,64 +1,110 @@
--- A request that was walked to its end is performed; another is short.
-use Rattle.std.proofs.Common.{◌≡◌, ◌+◌, ◌-◌, ap, subst, sym, ◌∙◌, arith}
-use Rattle.fuse_replies.specs.Errno.{enomem}
+-- A request that was walked to its end is performed; another stopped on its way.
+use Rattle.std.proofs.Common.{◌≡◌, ◌+◌, ◌-◌, refl, ap, subst, sym, ◌∙◌, arith, length, Option}
 use Rattle.fuse_replies.specs.Replies.{without_spare as reply_without_spare}
 use Rattle.fuse_replies.specs.declared.reply.Reply.TheVariants.{Error}
 use Rattle.fuse_requests.specs.Grammar.{without_spare}
-use Rattle.mount_core.proofs.SerialLemmas.{served, stopped}
+use Rattle.mount_core.proofs.BaseLemmas.{covers_all, holds_all}
+use Rattle.mount_core.proofs.SerialLemmas.{asks_along, served, stopped_so}
+use Rattle.mount_core.specs.Bases.{HasRead, errno_of}
 use Rattle.mount_core.specs.Errands.{plan_of}
-use Rattle.mount_core.specs.Serials.{SerialState, ServesOne}
-use Rattle.mount_model.specs.declared.config.Config.{Config}
-use Rattle.mount_rules.specs.Dispatch.{mount_after, plan, reply_to}
+use Rattle.mount_core.specs.Serials.{CameTo, IsSerial, SerialState, ServesOne}
+use Rattle.mount_rules.specs.Dispatch.{mount_after, reply_to, wants}
 use Rattle.mount_rules.specs.Mount.{MountModel}
-use Rattle.mount_rules.specs.OneThread.{second_of}
+use Rattle.mount_rules.specs.OneThread.{RunState, at_state, contents_of, second_of}
+use Rattle.mount_rules.specs.Plans.{CoversWanted, HoldsWanted, Wanted}
 use Rattle.mount_state.specs.Mounts.{MountState}
+use Rattle.mount_state.specs.Serving.{IsServedAt}
 use Rattle.mount_state.specs.Spares.{need}
 use Rattle.mount_core.proofs.serial.Serial.perform.Goals as goal
+use Rattle.mount_core.proofs.serial.Serial.perform.Goals.{After-finish, After-errno}
 
-pub invariant_of-self-in-Ok : goal.invariant_of-self-in-Ok
-invariant_of-self-in-Ok c =
-    let ended = c.finish.ensures.mount 0 in
+-- ---- it was walked to its end
+pub finish-requires-clause-base : goal.finish-requires-clause-base
+finish-requires-clause-base c =
+    let request = without_spare c.args.request.now in
+    let was : SerialState = record { config = c.self.inside.config; mount = c.self.inside.mount.mount; store = c.self.inside.store } in
+    let read = subst (λ (found : Option Wanted). HasRead c.self.inside.store.bucket found c.in-Ok.base) c.in_ok-errand.ensures.wanted c.in-Ok.ensures.base in
+    subst (λ (m : MountState). CoversWanted (wants m.mount request) c.in-Ok.base.first (length c.in-Ok.base.bytes)) (sym c.in_ok-spare.ensures.room)
+    (covers_all was request c.in-Ok.base c.self.invariant.run c.self.invariant.came (wants was.mount request) refl read)
+
+-- a run that came to the state serves it at its end
+served_at : (c : After-finish) (run : RunState) → CameTo run (record { config = c.self.inside.config; mount = c.self.inside.mount.mount; store = c.self.inside.store })
+    → IsServedAt c.prepare.new.self.config c.prepare.new.self.mount (without_spare c.args.request.now) c.in-Ok.base (at_state c.self.inside.config run)
+served_at c run came =
+    let request = without_spare c.args.request.now in
+    let was : SerialState = record { config = c.self.inside.config; mount = c.self.inside.mount.mount; store = c.self.inside.store } in
+    let read = subst (λ (found : Option Wanted). HasRead c.self.inside.store.bucket found c.in-Ok.base) c.in_ok-errand.ensures.wanted c.in-Ok.ensures.base in
+    record {
+      settings = sym (ap (λ (m : MountState). m.config) c.in_ok-spare.ensures.room ∙ c.self.invariant.same);
+      holds = subst (λ (m : MountState). HoldsWanted (contents_of run.store) (wants m.mount request) c.in-Ok.base.first c.in-Ok.base.bytes) (sym c.in_ok-spare.ensures.room)
+          (holds_all was request c.in-Ok.base run came (wants was.mount request) refl read);
+    }
+
+-- so the request is the next one of every such run
+performed_so : (c : After-finish)
+    → ServesOne (record { config = c.self.inside.config; mount = c.self.inside.mount.mount; store = c.self.inside.store }) (without_spare c.args.request.now) (reply_without_spare c.finish.result)
+    (record { config = c.self.inside.config; mount = c.finish.new.self.mount; store = c.observe.new.store })
+performed_so c =
+    let request = without_spare c.args.request.now in
+    let was : SerialState = record { config = c.self.inside.config; mount = c.self.inside.mount.mount; store = c.self.inside.store } in
+    let stamped = c.second-second.ensures ∙ ap (λ (s : SerialState). second_of s.config) (sym c.self.view_is) in
+    let asks = asks_along was request c.in_ok-spare.ensures.valid c.in_ok-errand.errand c.second-second.result stamped c.in_ok-errand.ensures.plan in
+    served was request c.in_ok-spare.ensures.valid (plan_of c.in_ok-errand.errand c.second-second.result) c.in-Ok.seen.items c.observe.new.store
+    (reply_without_spare c.finish.result) c.finish.new.self.mount asks c.in-Ok.ensures.ok c.in-Ok.ensures.completes
+    (λ run came. c.finish.ensures.reply (at_state was.config run) (served_at c run came) ∙ ap (λ (m : MountState). reply_to (at_state was.config run) m.mount request c.in-Ok.seen.items) c.in_ok-spare.ensures.room)
+    (λ run came. ap (λ (m : MountState). m.mount) (c.finish.ensures.mount (at_state was.config run) (served_at c run came))
+    ∙ ap (λ (m : MountState). mount_after (at_state was.config run) m.mount request c.in-Ok.seen.items) c.in_ok-spare.ensures.room)
+
+ended_so : (c : After-finish) → IsSerial c.self.inside.config c.finish.new.self c.observe.new.store
+ended_so c =
+    let on = performed_so c c.self.invariant.run c.self.invariant.came in
+    let ended = c.finish.ensures.mount (at_state c.self.inside.config c.self.invariant.run) (served_at c c.self.invariant.run c.self.invariant.came) in
     let promised : c.finish.new.self.promised ≡ c.prepare.new.self.promised - need c.observe.new.spare.provided = ap (λ (m : MountState). m.promised) ended in
     let room : c.prepare.new.self.promised ≡ c.self.inside.mount.promised + need c.in_ok-spare.spare.provided = ap (λ (m : MountState). m.promised) c.in_ok-spare.ensures.room in
     record {
       settings = c.self.invariant.settings;
       same = ap (λ (m : MountState). m.config) ended ∙ ap (λ (m : MountState). m.config) c.in_ok-spare.ensures.room ∙ c.self.invariant.same;
       idle = omega (arith, promised, room, ap need c.observe.ensures.provided, c.self.invariant.idle);
+      run = on.left;
+      came = on.came;
     }
+
+pub invariant_of-self-in-Ok : goal.invariant_of-self-in-Ok
+invariant_of-self-in-Ok c = ended_so (goal.at.invariant_of-self-in-Ok c).After-finish
 
 pub returns-in-Ok-clause-ok : goal.returns-in-Ok-clause-ok
 returns-in-Ok-clause-ok c =
+    subst (λ (before : SerialState). ServesOne before (without_spare c.args.request.now) (reply_without_spare c.finish.result) (record { config = c.self.inside.config; mount = c.finish.new.self.mount; store = c.observe.new.store })) c.self.view_is
+    (performed_so (goal.at.returns-in-Ok-clause-ok c).After-finish)
+
+-- ---- it stopped
+stopped_here : (c : After-errno)
+    → ServesOne (record { config = c.self.inside.config; mount = c.self.inside.mount.mount; store = c.self.inside.store }) (without_spare c.args.request.now) (Error c.errno.result)
+    (record { config = c.self.inside.config; mount = c.forgo.new.self.mount; store = c.observe.new.store })
+stopped_here c =
     let request = without_spare c.args.request.now in
-    let inside = c.self.inside in
-    let was : SerialState = record { config = inside.config; mount = inside.mount.mount; store = inside.store } in
-    let seen = c.in-Ok.seen.items in
-    let answer = reply_without_spare c.finish.result in
-    let second = second_of inside.config in
-    let stamped : c.second-second.result ≡ second = c.second-second.ensures ∙ ap (λ (s : SerialState). second_of s.config) (sym c.self.view_is) in
-    let asked = plan_of c.in_ok-errand.errand c.second-second.result in
-    let is : asked ≡ plan inside.config second inside.mount.mount request =
-    c.in_ok-errand.ensures.plan c.second-second.result ∙ ap (λ n. plan inside.config n inside.mount.mount request) stamped in
-    let answered : answer ≡ reply_to inside.config second inside.mount.mount request seen =
-    c.finish.ensures.reply second ∙ ap (λ (m : MountState). reply_to m.config second m.mount request seen) c.in_ok-spare.ensures.room
-    ∙ ap (λ (config : Config). reply_to config second inside.mount.mount request seen) c.self.invariant.same in
-    let left : c.finish.new.self.mount ≡ mount_after inside.config second inside.mount.mount request seen =
-    ap (λ (m : MountState). m.mount) (c.finish.ensures.mount second)
-    ∙ ap (λ (m : MountState). mount_after m.config second m.mount request seen) c.in_ok-spare.ensures.room
-    ∙ ap (λ (config : Config). mount_after config second inside.mount.mount request seen) c.self.invariant.same in
-    subst (λ (before : SerialState). ServesOne before request answer (record { config = inside.config; mount = c.finish.new.self.mount; store = c.observe.new.store })) c.self.view_is
-    (served was request asked seen c.observe.new.store answer c.finish.new.self.mount is c.in-Ok.ensures.ok c.in-Ok.ensures.completes answered left)
+    let was : SerialState = record { config = c.self.inside.config; mount = c.self.inside.mount.mount; store = c.self.inside.store } in
+    let stamped = c.second-second.ensures ∙ ap (λ (s : SerialState). second_of s.config) (sym c.self.view_is) in
+    let asks = asks_along was request c.in_ok-spare.ensures.valid c.in_ok-errand.errand c.second-second.result stamped c.in_ok-errand.ensures.plan in
+    let kept : c.forgo.new.self.mount ≡ c.self.inside.mount.mount = ap (λ (m : MountState). m.mount) c.forgo.ensures ∙ ap (λ (m : MountState). m.mount) c.in_ok-spare.ensures.room in
+    subst (λ errno. ServesOne was request (Error errno) (record was { mount = c.forgo.new.self.mount; store = c.observe.new.store })) (sym c.errno.ensures)
+    (subst (λ (m : MountModel). ServesOne was request (Error (errno_of c.in-Err.stopped)) (record was { mount = m; store = c.observe.new.store })) (sym kept)
+    (stopped_so was request c.in_ok-spare.ensures.valid (plan_of c.in_ok-errand.errand c.second-second.result) _ c.observe.new.store c.in-Err.stopped asks c.in_ok-errand.ensures.wanted c.in-Err.ensures.err))
+
+pub invariant_of-self-in-Err : goal.invariant_of-self-in-Err
+invariant_of-self-in-Err c =
+    let on = stopped_here (goal.at.invariant_of-self-in-Err c).After-errno c.self.invariant.run c.self.invariant.came in
+    let promised : c.forgo.new.self.promised ≡ c.prepare.new.self.promised - need c.observe.new.spare.provided = ap (λ (m : MountState). m.promised) c.forgo.ensures in
+    let room : c.prepare.new.self.promised ≡ c.self.inside.mount.promised + need c.in_ok-spare.spare.provided = ap (λ (m : MountState). m.promised) c.in_ok-spare.ensures.room in
+    record {
+      settings = c.self.invariant.settings;
+      same = ap (λ (m : MountState). m.config) c.forgo.ensures ∙ ap (λ (m : MountState). m.config) c.in_ok-spare.ensures.room ∙ c.self.invariant.same;
+      idle = omega (arith, promised, room, ap need c.observe.ensures.provided, c.self.invariant.idle);
+      run = on.left;
+      came = on.came;
+    }
 
 pub returns-clause-ok : goal.returns-clause-ok
 returns-clause-ok c =
-    let request = without_spare c.args.request.now in
-    let inside = c.self.inside in
-    let was : SerialState = record { config = inside.config; mount = inside.mount.mount; store = inside.store } in
-    let second = second_of inside.config in
-    let stamped : c.second-second.result ≡ second = c.second-second.ensures ∙ ap (λ (s : SerialState). second_of s.config) (sym c.self.view_is) in
-    let asked = plan_of c.in_ok-errand.errand c.second-second.result in
-    let is : asked ≡ plan inside.config second inside.mount.mount request =
-    c.in_ok-errand.ensures.plan c.second-second.result ∙ ap (λ n. plan inside.config n inside.mount.mount request) stamped in
-    let kept : c.forgo.new.self.mount ≡ inside.mount.mount = ap (λ (m : MountState). m.mount) c.forgo.ensures ∙ ap (λ (m : MountState). m.mount) c.in_ok-spare.ensures.room in
-    subst (λ (before : SerialState). ServesOne before request (Error enomem) (record { config = inside.config; mount = c.forgo.new.self.mount; store = c.observe.new.store })) c.self.view_is
-    (subst (λ (mount : MountModel). ServesOne was request (Error enomem) (record { config = inside.config; mount = mount; store = c.observe.new.store })) (sym kept)
-    (stopped was request asked c.observe.new.store is c.in-Err.ensures.err))
+    subst (λ (before : SerialState). ServesOne before (without_spare c.args.request.now) (Error c.errno.result) (record { config = c.self.inside.config; mount = c.forgo.new.self.mount; store = c.observe.new.store })) c.self.view_is
+    (stopped_here (goal.at.returns-clause-ok c).After-errno)

@@ -1,0 +1,46 @@
+-- What a request wants of the source of its file, and what it got.
+use Rattle.std.specs.Prelude.{◌≡◌, ℕ, Option, Some, None, IsSome, ◌⊎◌}
+use Rattle.bucket_api.specs.BucketState.{BucketState, object_of}
+use Rattle.bucket_api.specs.declared.objects.Object.{Object}
+use Rattle.fuse_replies.specs.Errno.{enomem, estale}
+use Rattle.mount_core.specs.Stores.{Counted}
+use Rattle.mount_core.specs.Walks.{Stops}
+use Rattle.mount_core.specs.declared.stopped.Stopped.{Stopped}
+use Rattle.mount_core.specs.declared.stopped.Stopped.TheVariants.{NoMemory, Stale}
+use Rattle.mount_rules.specs.Plans.{Plan, Wanted}
+use Rattle.mount_rules.specs.Reading.{bytes_in}
+use Rattle.mount_state.specs.declared.base.Base.{Base}
+
+-- the bucket has the generation that is wanted, as this object
+abbrev pub HasLive : BucketState → Wanted → Object → Type 0
+HasLive bucket wanted o = object_of bucket wanted.name wanted.generation ≡ Some o
+
+-- the bucket has it no more
+abbrev pub IsGone : BucketState → Wanted → Type 0
+IsGone bucket wanted = object_of bucket wanted.name wanted.generation ≡ None
+
+-- all bytes that are wanted were read, as they stand
+pub record IsRead (bucket : BucketState) (wanted : Wanted) (base : Base) : Type 0 where
+  pub object : Object
+  pub is_live : HasLive bucket wanted object
+  pub first : base.first ≡ wanted.range.first
+  pub bytes : base.bytes ≡ bytes_in wanted.range object.content
+
+abbrev pub HasRead : BucketState → Option Wanted → Base → Type 0
+HasRead bucket None base = Unit {0}
+HasRead bucket (Some wanted) base = IsRead bucket wanted base
+
+-- nothing was read: memory was refused, or the generation is gone
+abbrev pub WhyNot : BucketState → Option Wanted → Stopped → Type 0
+WhyNot bucket None why = ⊥
+WhyNot bucket (Some wanted) NoMemory = Unit {0}
+WhyNot bucket (Some wanted) Stale = IsGone bucket wanted
+
+-- a request stopped on the way along its plan, or at what it wants of a source
+abbrev pub StopsBy : Plan → Option Wanted → Counted → Counted → Stopped → Type 0
+StopsBy plan wanted before after NoMemory = Stops plan before after ⊎ ((after ≡ before) × IsSome wanted)
+StopsBy plan wanted before after Stale = (after ≡ before) × WhyNot before.bucket wanted Stale
+
+abbrev pub errno_of : Stopped → ℕ
+errno_of NoMemory = enomem
+errno_of Stale = estale
