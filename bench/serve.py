@@ -12,7 +12,8 @@ import sys
 import tempfile
 import time
 
-LOOKUP, WRITE, STATFS, INIT, OPENDIR, READDIR, CREATE = 1, 16, 17, 26, 27, 28, 35
+LOOKUP, GETATTR, OPEN, WRITE, STATFS, RELEASE = 1, 3, 14, 16, 17, 18
+INIT, OPENDIR, READDIR, CREATE = 26, 27, 28, 35
 
 
 def frame(opcode, unique, node, body=b""):
@@ -37,6 +38,20 @@ def create_stream(count):
 
 def lookup_stream(count):
     return init() + create(2, b"f") + b"".join(frame(LOOKUP, 3 + n, 1, b"f\0") for n in range(count))
+
+
+def getattr_stream(count):
+    return init() + create(2, b"f") + b"".join(frame(GETATTR, 3 + n, 2, bytes(16)) for n in range(count))
+
+
+def open_stream(count):
+    """Opens a file and releases the handle, so many times."""
+    opened = struct.pack("<II", 0, 0)
+    pairs = (
+        frame(OPEN, 3 + 2 * n, 2, opened) + frame(RELEASE, 4 + 2 * n, 2, struct.pack("<QIIQ", 2 + n, 0, 0, 0))
+        for n in range(count // 2)
+    )
+    return init() + create(2, b"f") + b"".join(pairs)
 
 
 def listing_stream(count):
@@ -83,6 +98,8 @@ def main():
     measure("STATFS", statfs_stream, 500_000, program, runs)
     measure("WRITE of 128 KiB", write_stream, 400, program, runs)
     measure("LOOKUP", lookup_stream, 200_000, program, runs)
+    measure("GETATTR", getattr_stream, 200_000, program, runs)
+    measure("OPEN and RELEASE", open_stream, 200_000, program, runs)
     measure("CREATE", create_stream, 200_000, program, runs)
     measure("CREATE, OPENDIR and READDIR", listing_stream, 20_000, program, runs)
 

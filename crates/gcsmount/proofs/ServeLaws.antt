@@ -5,6 +5,7 @@ use Rattle.std.specs.Io.KnownBytes.{Consumes, IsAtEnd, Keeps}
 use Rattle.std.proofs.KnownBytes.{Appends-nil, Appends-trans, Consumes-kept, Consumes-nil, Consumes-trans}
 use Rattle.std.proofs.Math.Seq.{take-append-add, take-nil}
 use Rattle.io_ports.specs.Faults.{Rose}
+use Rattle.bucket_api.proofs.BucketLaws.{IsBucket-empty}
 use Rattle.bucket_api.specs.BucketState.{empty_bucket}
 use Rattle.fuse_frames.specs.Cut.{Cuts, HasNoBadLen, IsUnfinished}
 use Rattle.fuse_frames.specs.Cutter.{Cutter, fed, fresh}
@@ -12,6 +13,7 @@ use Rattle.fuse_frames.proofs.FrontLemmas.{sound_not_bad, unfinished_untold}
 use Rattle.mount_model.specs.declared.config.Config.{Config}
 use Rattle.mount_core.specs.Serials.{CameTo, SerialState, first_serial}
 use Rattle.mount_rules.specs.OneThread.{first_state}
+use Rattle.mount_core.proofs.FirstLemmas.{came_first}
 use Rattle.mount_laws.proofs.ServingLaws.{BeginsServing-nothing, Serves-nil}
 use Rattle.io_ports.specs.Ports.{Port}
 use Rattle.gcsmount.specs.Serve.{Answered, CountsReads, CountsWrites, EndsBy, Streams, longest_input}
@@ -156,7 +158,7 @@ Progress-first config source sink cutter mount new first = record {
     given = refl;
     settings = ap (λ (m : SerialState). m.config) first;
     run = first_state empty_bucket;
-    came = subst (CameTo (first_state empty_bucket)) (sym first) (record { mount = refl; store = record { bucket = refl; made = refl } });
+    came = subst (CameTo (first_state empty_bucket)) (sym first) (came_first config empty_bucket IsBucket-empty);
     served = Serves-nil config (first_state empty_bucket);
   });
 }

@@ -1,3 +1,4 @@
+//! The program, run as a whole: its words, streams that fail or come in pieces, what it puts out and what it tells.
 mod files;
 mod streams;
 
@@ -17,7 +18,7 @@ const INIT: &str =
     "380000001a0000000100000000000000000000000000000000000000000000000000000000000000\
 070000001f00000000000200ffffffff";
 
-// The first 55 of these 56 bytes.
+/// The first 55 of these 56 bytes.
 const CUT_INIT: &str =
     "380000001a0000000100000000000000000000000000000000000000000000000000000000000000\
 070000001f00000000000200ffffff";
@@ -68,10 +69,10 @@ const FORGET: &str =
     "30000000020000000300000000000000020000000000000000000000000000000000000000000000\
 0100000000000000";
 
-/// OPEN of node 2, unique 4.
-const OPEN: &str =
-    "300000000e0000000400000000000000020000000000000000000000000000000000000000000000\
-0000000000000000";
+/// LINK of node 2 to the name `g` in node 1, unique 4: hard links are not served.
+const LINK: &str =
+    "320000000d0000000400000000000000010000000000000000000000000000000000000000000000\
+02000000000000006700";
 
 /// DESTROY with a body of one byte, unique 5.
 const LONG_DESTROY: &str =
@@ -131,6 +132,7 @@ fn runs<T: Threads + Wait + Sync + Abort>(
     Ok(())
 }
 
+/// Runs `gcsmount serve` as `runs` does.
 fn serves<T: Threads + Wait + Sync + Abort>(
     rt: &T,
     alloc: Global,
@@ -142,6 +144,7 @@ fn serves<T: Threads + Wait + Sync + Abort>(
     runs(rt, alloc, &[word], input, ports, wanted)
 }
 
+/// Texts one behind the other.
 fn joined(alloc: Global, parts: &[&str]) -> Result<String, Fail> {
     let mut all = String::new(alloc);
     for part in parts {
@@ -214,7 +217,7 @@ fn requests_are_answered_silent_or_refused(rt: HostRuntime) -> Result<(), Fail> 
             INIT,
             STATFS,
             FORGET,
-            OPEN,
+            LINK,
             LONG_DESTROY,
             DESTROY,
             SHORT_INIT,
@@ -316,7 +319,7 @@ fn each_frame_is_answered_before_more_is_taken(rt: HostRuntime) -> Result<(), Fa
     let twice = hex::decode(alloc, input.as_str())?;
     let put = Cell::new(0);
     let mut source = Recording::new(alloc, twice.as_slice(), 40, &put);
-    let mut sink = Counting::new(&put);
+    let mut sink = Counting { put: &put };
     let mut notes = MemSink::new(alloc, &[], 0)?;
     let word = Text::of(alloc, "serve")?;
     let status = run_tool(
@@ -341,7 +344,7 @@ fn more_input_than_the_longest_is_refused(rt: HostRuntime) -> Result<(), Fail> {
     let init = hex::decode(alloc, INIT)?;
     let put = Cell::new(0);
     let mut source = Endless::new(alloc, init.as_slice())?;
-    let mut sink = Counting::new(&put);
+    let mut sink = Counting { put: &put };
     let mut notes = MemSink::new(alloc, &[], 0)?;
     let word = Text::of(alloc, "serve")?;
     let status = run_tool(

@@ -56,6 +56,9 @@ const OPEN: &str =
     "300000000e0000000600000000000000020000000000000000000000000000000000000000000000\
 0000000000000000";
 
+/// Its reply: handle 2.
+const OPENED: &str = "2000000000000000060000000000000002000000000000000000000000000000";
+
 /// FORGET of two look-ups of node 2.
 const FORGET_BOTH: &str =
     "30000000020000000700000000000000020000000000000000000000000000000000000000000000\
@@ -155,8 +158,7 @@ fn a_file_is_made_once_and_found_under_its_node(rt: HostRuntime) -> Result<(), F
     let found = joined(alloc, &[INIT_DONE, CREATED, NODE_2])?;
     let missing = "10000000feffffff0400000000000000";
     let exists = "10000000efffffff0500000000000000";
-    let unserved = "10000000daffffff0600000000000000";
-    let wanted = joined(alloc, &[found.as_str(), missing, exists, unserved, NODE_3])?;
+    let wanted = joined(alloc, &[found.as_str(), missing, exists, OPENED, NODE_3])?;
     for piece in [1, 65_536] {
         let ports = Ports { piece, ..SOUND };
         serves(&rt, alloc, input.as_str(), ports, (0, wanted.as_str(), ""))?;
@@ -191,6 +193,36 @@ fn names_that_are_no_components_are_refused(rt: HostRuntime) -> Result<(), Fail>
         &[INIT, names.as_str(), others.as_str(), long.as_str()],
     )?;
     let wanted = joined(alloc, &[INIT_DONE, REFUSALS])?;
+    serves(&rt, alloc, input.as_str(), SOUND, (0, wanted.as_str(), ""))
+}
+
+/// OPENDIR of node 1, unique 17.
+const OPENDIR: &str =
+    "300000001b0000001100000000000000010000000000000000000000000000000000000000000000\
+0000000000000000";
+
+/// READDIR of handle 2 in node 1 from position 0, 4,096 bytes, unique 18.
+const READDIR: &str =
+    "500000001c0000001200000000000000010000000000000000000000000000000000000000000000\
+02000000000000000000000000000000001000000000000000000000000000000000000000000000";
+
+/// RELEASEDIR of handle 2 in node 1, unique 19.
+const RELEASEDIR: &str =
+    "400000001d0000001300000000000000010000000000000000000000000000000000000000000000\
+020000000000000000000000000000000000000000000000";
+
+/// The replies to the three: handle 2; the regular file `f`, after which position 1 comes; and nothing.
+const LISTED: &str =
+    "20000000000000001100000000000000020000000000000000000000000000003000000000000000\
+1200000000000000ffffffff00000000010000000000000001000000080000006600000000000000\
+10000000000000001300000000000000";
+
+#[test]
+fn a_directory_is_listed(rt: HostRuntime) -> Result<(), Fail> {
+    let alloc = rt.alloc();
+    let listing = joined(alloc, &[OPENDIR, READDIR, RELEASEDIR])?;
+    let input = joined(alloc, &[INIT, CREATE_F, listing.as_str()])?;
+    let wanted = joined(alloc, &[INIT_DONE, CREATED, LISTED])?;
     serves(&rt, alloc, input.as_str(), SOUND, (0, wanted.as_str(), ""))
 }
 

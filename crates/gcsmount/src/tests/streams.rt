@@ -1,4 +1,6 @@
 //! Streams that record how they are used.
+ghost use Rattle.std.specs.Prelude.{◌≡◌, [], IfOk};
+
 use io_ports::{Failed, Sink, Source};
 use std::alloc::{AllocError, Global};
 use std::cell::Cell;
@@ -19,7 +21,11 @@ impl<'a> Recording<'a> {
         bytes: &'a [u8],
         piece: usize,
         put: &'a Cell<u64>,
-    ) -> Recording<'a> {
+    ) -> Recording<'a>
+        ensures left { result.left.now ≡ bytes.entry.now }
+        ensures piece { result.piece ≡ piece }
+        ensures takes { result.takes.items ≡ [] }
+    {
         Recording {
             left: bytes,
             piece,
@@ -29,7 +35,9 @@ impl<'a> Recording<'a> {
     }
 
     /// Of each take, how many bytes it asked for and how many the sink had taken.
-    pub(crate) fn takes(&self) -> &[(usize, u64)] {
+    pub(crate) fn takes(&self) -> &[(usize, u64)]
+        ensures { result.now ≡ self.now.takes.items }
+    {
         self.takes.as_slice()
     }
 }
@@ -55,14 +63,7 @@ impl Source for Recording<'_> {
 /// A sink that counts the bytes it takes.
 #[derive(Drop)]
 pub(crate) struct Counting<'a> {
-    put: &'a Cell<u64>,
-}
-
-impl<'a> Counting<'a> {
-    /// A sink that counts its bytes there.
-    pub(crate) fn new(put: &'a Cell<u64>) -> Counting<'a> {
-        Counting { put }
-    }
+    pub(crate) put: &'a Cell<u64>,
 }
 
 impl Sink for Counting<'_> {
@@ -88,7 +89,9 @@ pub(crate) struct Endless {
 
 impl Endless {
     /// A source of this frame and then of WRITE frames.
-    pub(crate) fn new(alloc: Global, first: &[u8]) -> Result<Endless, AllocError> {
+    pub(crate) fn new(alloc: Global, first: &[u8]) -> Result<Endless, AllocError>
+        ensures { IfOk result (λ source. source.taken ≡ 0) }
+    {
         let mut bytes = Vec::from_slice(alloc, first)?;
         // A len of 135,168, and the opcode 16.
         bytes.extend_from_slice(&[0, 0x10, 2, 0, 16])?;
@@ -104,7 +107,9 @@ impl Endless {
     }
 
     /// How many bytes were taken.
-    pub(crate) fn taken(&self) -> u64 {
+    pub(crate) fn taken(&self) -> u64
+        ensures { result ≡ self.now.taken }
+    {
         self.taken
     }
 }
