@@ -4,7 +4,7 @@ use Rattle.std.specs.Prelude.{not, ◌&&◌, if◌then◌else◌}
 use Rattle.std.specs.Option.{option_map_or}
 use Rattle.fuse_replies.specs.Errno.{ebadf, einval, enametoolong, enosys, enotdir, eproto, estale}
 use Rattle.fuse_requests.specs.declared.request.Request.{Request}
-use Rattle.fuse_requests.specs.declared.request.Request.TheVariants.{BatchForget, Create, Destroy, Forget, Fsyncdir, Getattr, Init, Interrupt, Lookup, Opendir, Opening, Read, Readdir, Releasedir, Statfs, Unknown}
+use Rattle.fuse_requests.specs.declared.request.Request.TheVariants.{BatchForget, Create, Destroy, Forget, Fsyncdir, Getattr, Init, Interrupt, Lookup, Opendir, Opening, Read, Readdir, Release, Releasedir, Statfs, Unknown}
 use Rattle.handle_table.specs.Handles.{Opened}
 use Rattle.mount_rules.specs.Dispatch.{early, is_among, is_init, is_silent, rules_of, served_opcodes, silent_opcodes, view_in}
 use Rattle.mount_rules.specs.Guards.{entries_opened, errno_of_fault, in_directory, file_opened, is_directory, longest_read, on_file, on_live, on_open_directory, on_open_file, part_refusal, size_refusal}
@@ -95,6 +95,7 @@ refusal-told (Readdir node fh first size) view =
 refusal-told (Getattr node) view = on_live-told view.node (λ sight. None) (λ sight. tt)
 refusal-told (Opening node flags) view = on_live-told view.node (λ sight. on_file sight.kind None) (λ sight. on_file-told sight.kind)
 refusal-told (Read node fh first size) view = on_open_file-told node view (λ file. size_refusal size) (λ file. size-told (nat_le size longest_read))
+refusal-told (Release node fh) view = on_open_file-told node view (λ file. None) (λ file. tt)
 refusal-told (Releasedir node fh) view = on_open_directory-told node view.handle (λ entries. None) (λ entries. tt)
 refusal-told (Fsyncdir node fh) view = on_open_directory-told node view.handle (λ entries. None) (λ entries. tt)
 refusal-told (Init major minor readahead flags) view = tt

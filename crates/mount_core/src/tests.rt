@@ -17,7 +17,7 @@ use std::process::Abort;
 use std::test::Fail;
 use steps::Ask::{
     BatchForget, Create, Destroy, Forget, Fsyncdir, Getattr, Init, Lookup, Open, Opendir, Read,
-    Readdir, Releasedir, Statfs,
+    Readdir, Release, Releasedir, Statfs,
 };
 use steps::Told::{
     Agreed, Attr, Content, Directory, Done, Entries, Errno, File, Made, Opened, Silence, Sizes,
@@ -222,11 +222,14 @@ const READS: &[Step<'static>] = &[
     (Read(2, 2, 0, 1), Errno(9)),
     (Open(2), Opened(2)),
     (Read(2, 2, 4, 9), Content("o")),
+    (Release(2, 1), Done),
     (Read(2, 1, 0, 1), Errno(9)),
+    (Release(2, 1), Errno(9)),
     (Forget(2, 1), Silence),
     (Open(2), Errno(116)),
     (Getattr(2), Errno(116)),
     (Read(2, 2, 0, 5), Content("hello")),
+    (Release(2, 2), Done),
     (Read(2, 2, 0, 5), Errno(9)),
     (Lookup(1, "f"), File(3)),
 ];

@@ -8,7 +8,7 @@ use Rattle.claim_spec.specs.Conflicts.{AreApart}
 use Rattle.fuse_replies.specs.declared.reply.Reply.{Reply}
 use Rattle.fuse_replies.specs.declared.reply.Reply.TheVariants.{Error, Silent}
 use Rattle.fuse_requests.specs.declared.request.Request.{Request}
-use Rattle.fuse_requests.specs.declared.request.Request.TheVariants.{Lookup, Forget, Getattr, BatchForget, Interrupt, Init, Opening, Read, Statfs, Opendir, Readdir, Releasedir, Fsyncdir, Create, Destroy, Unknown}
+use Rattle.fuse_requests.specs.declared.request.Request.TheVariants.{Lookup, Forget, Getattr, BatchForget, Interrupt, Init, Opening, Read, Release, Statfs, Opendir, Readdir, Releasedir, Fsyncdir, Create, Destroy, Unknown}
 use Rattle.inode_spec.specs.Inodes.{lookups_of}
 use Rattle.mount_rules.specs.Dispatch.{early, goes_on, is_among, is_idle, is_init, is_silent, mount_after, plan, claims, reply_to, rules_of, served_opcodes, silent_opcodes, taken_at, unread, view_in, wants}
 use Rattle.fuse_replies.specs.Errno.{einval, enomem, enosys, eproto}
@@ -32,6 +32,7 @@ use Rattle.mount_laws.proofs.Requests.Open.{open_sound}
 use Rattle.mount_laws.proofs.Requests.Opendir.{opendir_sound}
 use Rattle.mount_laws.proofs.Requests.Read.{read_sound}
 use Rattle.mount_laws.proofs.Requests.Readdir.{readdir_sound}
+use Rattle.mount_laws.proofs.Requests.Release.{release_sound}
 use Rattle.mount_laws.proofs.Requests.Releasedir.{releasedir_sound}
 use Rattle.mount_laws.proofs.Requests.Statfs.{destroy_sound, statfs_sound}
 use Rattle.mount_laws.proofs.Requests.Unserved.{unserved_sound}
@@ -58,6 +59,7 @@ sound (BatchForget pairs) = batch_forget_sound pairs.items
 sound (Getattr node) = getattr_sound node
 sound (Opening node flags) = open_sound node
 sound (Read node fh first size) = read_sound node fh first size
+sound (Release node fh) = release_sound node fh
 sound Statfs = statfs_sound
 sound (Init major minor readahead flags) = init_sound major minor readahead flags
 sound (Opendir node) = opendir_sound node

@@ -10,6 +10,7 @@ pub mod Open
 pub mod Opendir
 pub mod Read
 pub mod Readdir
+pub mod Release
 pub mod Releasedir
 pub mod Statfs
 pub mod Unserved

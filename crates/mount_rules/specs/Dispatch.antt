@@ -8,7 +8,7 @@ use Rattle.fuse_replies.specs.declared.reply.Reply.{Reply}
 use Rattle.fuse_replies.specs.declared.reply.Reply.TheVariants.{Error, Silent}
 use Rattle.fuse_requests.specs.Opcodes as opcodes
 use Rattle.fuse_requests.specs.declared.request.Request.{Request}
-use Rattle.fuse_requests.specs.declared.request.Request.TheVariants.{Lookup, Forget, BatchForget, Interrupt, Getattr, Init, Opening, Read, Statfs, Opendir, Readdir, Releasedir, Fsyncdir, Create, Destroy, Unknown}
+use Rattle.fuse_requests.specs.declared.request.Request.TheVariants.{Lookup, Forget, BatchForget, Interrupt, Getattr, Init, Opening, Read, Release, Statfs, Opendir, Readdir, Releasedir, Fsyncdir, Create, Destroy, Unknown}
 use Rattle.fuse_replies.specs.Errno.{einval, enosys, eproto}
 use Rattle.mount_rules.specs.Mount.{MountModel}
 use Rattle.mount_model.specs.Observing.{Observed}
@@ -25,6 +25,7 @@ use Rattle.mount_rules.specs.Requests.Open as open_file
 use Rattle.mount_rules.specs.Requests.Opendir as opendir
 use Rattle.mount_rules.specs.Requests.Read as read
 use Rattle.mount_rules.specs.Requests.Readdir as readdir
+use Rattle.mount_rules.specs.Requests.Release as release
 use Rattle.mount_rules.specs.Requests.Releasedir as releasedir
 use Rattle.mount_rules.specs.Requests.Statfs as statfs
 use Rattle.mount_rules.specs.Requests.Unserved as unserved
@@ -38,7 +39,7 @@ silent_opcodes = opcodes.forget ∷ opcodes.interrupt ∷ opcodes.batch_forget �
 -- the requests that are served and get a reply
 abbrev pub served_opcodes : List ℕ
 served_opcodes =
-    opcodes.lookup ∷ opcodes.getattr ∷ opcodes.opening ∷ opcodes.reading ∷ opcodes.statfs ∷ opcodes.init
+    opcodes.lookup ∷ opcodes.getattr ∷ opcodes.opening ∷ opcodes.reading ∷ opcodes.statfs ∷ opcodes.release ∷ opcodes.init
     ∷ opcodes.opendir ∷ opcodes.readdir ∷ opcodes.releasedir ∷ opcodes.fsyncdir ∷ opcodes.create ∷ opcodes.destroy ∷ []
 
 abbrev pub is_among : List ℕ → ℕ → Bool
@@ -59,6 +60,7 @@ rules_of (BatchForget pairs) = batch_forget.rules pairs.items
 rules_of (Getattr node) = getattr.rules node
 rules_of (Opening node flags) = open_file.rules node
 rules_of (Read node fh first size) = read.rules node fh first size
+rules_of (Release node fh) = release.rules node fh
 rules_of Statfs = statfs.rules
 rules_of (Init major minor readahead flags) = init.rules major minor readahead flags
 rules_of (Opendir node) = opendir.rules node

@@ -5,7 +5,7 @@ use Rattle.std.specs.Option.{option_map_or}
 use Rattle.fuse_replies.specs.declared.reply.Reply.TheVariants.{Error, Silent}
 use Rattle.fuse_requests.specs.Grammar.{without_spare}
 use Rattle.fuse_requests.specs.declared.request.Request.{Request}
-use Rattle.fuse_requests.specs.declared.request.Request.TheVariants.{BatchForget, Create, Destroy, Forget, Fsyncdir, Getattr, Init, Lookup, Opendir, Opening, Read, Readdir, Releasedir, Statfs}
+use Rattle.fuse_requests.specs.declared.request.Request.TheVariants.{BatchForget, Create, Destroy, Forget, Fsyncdir, Getattr, Init, Lookup, Opendir, Opening, Read, Readdir, Release, Releasedir, Statfs}
 use Rattle.fuse_requests.specs.declared.request.Forgotten.{Forgotten}
 use Rattle.io_ports.specs.RowItems.{RowItems}
 use Rattle.mount_model.specs.Observing.{Observed}
@@ -21,6 +21,7 @@ pub record HasNoEnd (request : Request) : Type 0 where
   pub opening : (node flags : ℕ) → request ≡ Opening node flags → ⊥
   pub read : (node fh first size : ℕ) → request ≡ Read node fh first size → ⊥
   pub statfs : request ≡ Statfs → ⊥
+  pub release : (node fh : ℕ) → request ≡ Release node fh → ⊥
   pub init : (major minor readahead flags : ℕ) → request ≡ Init major minor readahead flags → ⊥
   pub opendir : (node : ℕ) → request ≡ Opendir node → ⊥
   pub readdir : (node fh first size : ℕ) → request ≡ Readdir node fh first size → ⊥
@@ -49,6 +50,7 @@ module _ (at : AtTake) (mount : MountModel) (seen : List Observed) where
   stays_quiet (Opening node flags) other free = absurd (other.opening node flags refl)
   stays_quiet (Read node fh first size) other free = absurd (other.read node fh first size refl)
   stays_quiet Statfs other free = absurd (other.statfs refl)
+  stays_quiet (Release node fh) other free = absurd (other.release node fh refl)
   stays_quiet (Init major minor readahead flags) other free = absurd (other.init major minor readahead flags refl)
   stays_quiet (Opendir node) other free = absurd (other.opendir node refl)
   stays_quiet (Readdir node fh first size) other free = absurd (other.readdir node fh first size refl)

@@ -50,6 +50,7 @@ impl Tables {
                 size,
                 ..
             } => self.read(*node, *first, *size, seen.as_slice(), base),
+            Request::Release { node, fh } => self.release_file(*node, *fh),
             Request::Opendir { node } => self.open_directory(*node, items, seen),
             Request::Releasedir { fh, .. } => self.release_directory(*fh),
             Request::Fsyncdir { .. } | Request::Destroy => Reply::Empty,

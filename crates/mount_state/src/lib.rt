@@ -20,6 +20,7 @@ mod prepare;
 mod prepared;
 mod read;
 mod refusals;
+mod release;
 mod releasedir;
 mod showing;
 mod spare;

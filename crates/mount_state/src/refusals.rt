@@ -50,6 +50,7 @@ impl Tables {
             Request::Getattr { node } => self.live_refusal(*node),
             Request::Opening { node, .. } => self.file_refusal(*node),
             Request::Read { node, fh, size, .. } => self.read_refusal(*node, *fh, *size),
+            Request::Release { node, fh } => self.open_file_refusal(*node, *fh),
             Request::Readdir { node, fh, size, .. } => self.readdir_refusal(*node, *fh, *size),
             Request::Releasedir { node, fh } | Request::Fsyncdir { node, fh } => {
                 self.handle_refusal(*node, *fh)
@@ -255,6 +256,7 @@ fn is_served_opcode(opcode: u32) -> bool
             | opcode::OPEN
             | opcode::READ
             | opcode::STATFS
+            | opcode::RELEASE
             | opcode::INIT
             | opcode::OPENDIR
             | opcode::READDIR

@@ -27,6 +27,7 @@ pub(crate) enum Ask<'a> {
     Open(u64),
     /// Of a file by a handle, from a place on, and of so many bytes.
     Read(u64, u64, u64, u32),
+    Release(u64, u64),
     /// Of nodes, and how many look-ups of each are given back.
     BatchForget(&'a [(u64, u64)]),
     Destroy,
@@ -101,6 +102,7 @@ impl Ask<'_> {
                 first,
                 size,
             },
+            Ask::Release(node, fh) => Request::Release { node, fh },
             Ask::BatchForget(pairs) => Request::BatchForget {
                 pairs: forgotten(alloc, pairs)?,
             },

@@ -29,6 +29,7 @@ other c = record {
   opening = c.in_default.not-Opening;
   read = c.in_default.not-Read;
   statfs = c.in_default.not-Statfs;
+  release = c.in_default.not-Release;
   init = c.in_default.not-Init;
   opendir = c.in_default.not-Opendir;
   readdir = c.in_default.not-Readdir;
