@@ -19,5 +19,6 @@ returns-clause-content c = files_keep_content
 
 pub returns-clause-bytes : goal.returns-clause-bytes
 returns-clause-bytes c = reads_are_of_source
+
 pub returns-clause-pages : goal.returns-clause-pages
 returns-clause-pages c = pages_are_full
