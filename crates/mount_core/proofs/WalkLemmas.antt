@@ -33,7 +33,7 @@ observes_more plan store [] o observed here = (here, tt)
 observes_more plan store (p ∷ seen) o observed here = (observed.0, observes_more (plan_after plan p.answer) (after_operation store p.op) seen o observed.1 here)
 
 -- the log with one more operation leaves what the operation leaves
-leaves_more : (store : Store) (before : Counted) (op : Operation) → IsAllowed op → LeavesBucket store before → LeavesBucket (after_operation store op) (left_by before op)
+pub leaves_more : (store : Store) (before : Counted) (op : Operation) → IsAllowed op → LeavesBucket store before → LeavesBucket (after_operation store op) (left_by before op)
 leaves_more store before op may leaves = record {
   start = leaves.start;
   allowed = All-append (λ e. IsAllowed e.op) store.log (record { lane = 1; op = op; mode = modes.Done } ∷ []) leaves.allowed

@@ -29,7 +29,7 @@ use std::marker::Model;
 pub struct Serial {
     config: Config,
     mount: Mount,
-    store: Store,
+    pub(crate) store: Store,
 }
 
 impl Model for Serial {

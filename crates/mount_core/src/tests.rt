@@ -6,6 +6,7 @@ mod steps;
 ghost use Rattle.std.specs.Prelude.{◌<◌, ◌+◌, ◌^◌, IfOk, OnOk};
 ghost use Rattle.bucket_api.specs.BucketState.{IsWithin};
 ghost use Rattle.bucket_api.specs.Metadata.{KeysRise};
+ghost use Rattle.bucket_api.specs.Operation.{IsAllowed, operation};
 
 use crate::Serial;
 use bucket_api::{Op, Pair, allowed};
@@ -237,6 +238,59 @@ const READS: &[Step<'static>] = &[
 #[test]
 fn a_file_is_read_by_its_handles(rt: HostRuntime) -> Result<(), Fail> {
     plays_over(&rt, false, &["f"], READS)?;
+    Ok(())
+}
+
+/// The insert of another writer: it replaces an object by one of the bytes `world`, or makes it.
+fn insert_of_world<R: Abort + AllocGlobal>(rt: &R, name: &str) -> Result<Op, NoMemory>
+    ensures { IfOk result (λ op. IsAllowed (operation op)) }
+{
+    assert!(rt; allowed(name));
+    Ok(Op::Insert {
+        name: Text::of(rt.alloc(), name)?,
+        content: Bytes::of(rt.alloc(), b"world")?,
+        pairs: no_pairs(rt.alloc()),
+        only: None,
+        stamp: 7,
+    })
+}
+
+/// Another writer replaces an object in the bucket of the mount.
+fn replace<R: Abort + AllocGlobal>(rt: &R, mount: &mut Serial, name: &str) -> Result<(), NoMemory> {
+    let op = insert_of_world(rt, name)?;
+    mount.store.make(rt.alloc(), &op)?;
+    Ok(())
+}
+
+/// A file that is open and was read.
+const BEFORE: &[Step<'static>] = &[
+    (Init, Agreed),
+    (Lookup(1, "f"), File(2)),
+    (Open(2), Opened(1)),
+    (Read(2, 1, 0, 5), Content("hello")),
+    (Getattr(2), Attr(2, 5, 1)),
+];
+
+/// Its object was replaced: the old handle reads nothing, and never the new bytes, which a new node has.
+const AFTER: &[Step<'static>] = &[
+    (Read(2, 1, 0, 5), Errno(116)),
+    (Read(2, 1, 5, 5), Content("")),
+    (Getattr(2), Attr(2, 5, 0)),
+    (Open(2), Errno(116)),
+    (Lookup(1, "f"), File(3)),
+    (Open(3), Opened(2)),
+    (Read(3, 2, 0, 5), Content("world")),
+    (Read(2, 1, 0, 5), Errno(116)),
+    (Release(2, 1), Done),
+];
+
+#[test]
+fn a_replaced_file_is_stale_through_its_old_handle(rt: HostRuntime) -> Result<(), Fail> {
+    let config = Config::new();
+    let mut mount = Serial::new(rt.alloc(), &config, holding(&rt, &["f"])?)?;
+    plays(&rt, &mut mount, BEFORE)?;
+    replace(&rt, &mut mount, "f")?;
+    plays(&rt, &mut mount, AFTER)?;
     Ok(())
 }
 
