@@ -209,7 +209,7 @@ fn a_handle_serves_its_own_directory_while_it_is_open(rt: HostRuntime) -> Result
     Ok(())
 }
 
-/// Reading by handles: inside, at and past the end, of no bytes and of too many; and a handle that is released.
+/// Reading by handles: inside, at and past the end, of no bytes and of too many; many on one node, and released ones.
 const READS: &[Step<'static>] = &[
     (Init, Agreed),
     (Lookup(1, "f"), File(2)),
@@ -223,6 +223,14 @@ const READS: &[Step<'static>] = &[
     (Read(2, 2, 0, 1), Errno(9)),
     (Open(2), Opened(2)),
     (Read(2, 2, 4, 9), Content("o")),
+    (Open(2), Opened(3)),
+    (Open(2), Opened(4)),
+    (Release(2, 3), Done),
+    (Read(2, 3, 0, 1), Errno(9)),
+    (Read(2, 4, 0, 1), Content("h")),
+    (Open(2), Opened(5)),
+    (Release(2, 5), Done),
+    (Release(2, 4), Done),
     (Release(2, 1), Done),
     (Read(2, 1, 0, 1), Errno(9)),
     (Release(2, 1), Errno(9)),
