@@ -1,5 +1,5 @@
 //! A chain of blocks, as its owner holds it.
-ghost use Rattle.std.specs.Prelude.{◌≡◌};
+ghost use Rattle.std.specs.Prelude.{◌≡◌, None};
 
 use std::marker::Model;
 
@@ -19,11 +19,11 @@ impl Model for Chain {
 }
 
 impl Chain {
-    /// The chain with this head.
-    pub(crate) fn with_head(head: Option<usize>) -> Chain
-        ensures { result ≡ head }
+    /// The empty chain, which is one of every pool.
+    pub fn empty() -> Chain
+        ensures { result ≡ None }
     {
-        Chain { head }
+        Chain { head: None }
     }
 
     /// The head.

@@ -124,7 +124,7 @@ impl BlockPool {
         if self.free() < count {
             return None;
         }
-        let mut chain = Chain::with_head(None);
+        let mut chain = Chain::empty();
         for position in 0..count {
             self.insert_sorted(&mut chain, position);
         }

@@ -1,5 +1,6 @@
 //! Staged content as a chain in a pool, and the small changes of it that the calls are made of.
 ghost use Rattle.std.specs.Prelude.{◌≡◌, ℕ, ◌+◌, ◌-◌, ◌*◌, ◌/◌, ◌%◌, ◌≤◌, ◌<◌, max, min, List, None, IsTrue, false, length, slice_index};
+ghost use Rattle.block_pool.specs.Chains.{ChainMap};
 ghost use Rattle.block_pool.specs.Pool.{give_chain, Keeps};
 ghost use Rattle.staging_spec.specs.Blocks.{is_among, put_number, untouch};
 ghost use Rattle.staging_spec.specs.Staging.{staged};
@@ -45,6 +46,21 @@ impl Staged {
         let chain = pool.take(0).unwrap();
         Staged {
             chain,
+            base,
+            len: base,
+            limit: base,
+            touched: 0,
+        }
+    }
+
+    /// What `start` makes, over any pool: a source of so many bytes, at most 16,777,216, of which no block is touched.
+    pub fn bare(base: u64) -> Staged
+        requires { base ≤ 16777216 }
+        ensures value { result ≡ record { chain = None; base = base; size = base; limit = base; touched = 0 } }
+        ensures staged { (chains : ChainMap (List ℕ)) → IsStaged chains result }
+    {
+        Staged {
+            chain: Chain::empty(),
             base,
             len: base,
             limit: base,

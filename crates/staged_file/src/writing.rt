@@ -126,12 +126,14 @@ impl Staged {
     }
 
     /// How many blocks a write of a range would newly touch.
-    fn count_new(&self, pool: &BlockPool, first: u64, count: u64) -> u64
+    pub fn needed(&self, pool: &BlockPool, first: u64, count: u64) -> u64
         requires staged { IsStaged pool.now.chains self.now }
-        requires some { 0 < count }
         requires range { first + count ≤ 16777216 }
         ensures { result ≡ needed (touched_of pool.now.chains self.now) first count }
     {
+        if count == 0 {
+            return 0;
+        }
         let front = first / BLOCK;
         let back = (first + count - 1) / BLOCK;
         let mut needed = 0;
@@ -195,7 +197,7 @@ impl Staged {
             return Ok(());
         }
         let end = first + from.len() as u64;
-        let needed = self.count_new(pool, first, from.len() as u64);
+        let needed = self.needed(pool, first, from.len() as u64);
         let free = pool.free();
         if needed > free {
             return Err(NoBlocks { needed, free });

@@ -4,3 +4,4 @@ pub mod BlockLaws
 pub mod OverlayLaws
 pub mod StandingLaws
 pub mod CountLaws
+pub mod FileLaws

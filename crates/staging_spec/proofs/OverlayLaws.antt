@@ -10,7 +10,7 @@ use Rattle.staging_spec.specs.Staging.{Staging, staged}
 use Rattle.staging_spec.specs.Overlays.{byte_in, overlay_byte, staging_over, block_in, held_of, StandsOver}
 
 -- ---- lists made of numbers
-length-map_numbers : (f : ℕ → ℕ) (first count : ℕ) → length (map f (numbers_from first count)) ≡ count
+pub length-map_numbers : (f : ℕ → ℕ) (first count : ℕ) → length (map f (numbers_from first count)) ≡ count
 length-map_numbers f first zero = refl
 length-map_numbers f first (suc count) = ap suc (length-map_numbers f (first + 1) count)
 

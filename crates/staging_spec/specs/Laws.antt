@@ -1,8 +1,10 @@
--- The laws of contents, of touched blocks and of what is held of staged content, as statements.
+-- The laws of contents, of touched blocks, of all files and of what is held of staged content, as statements.
 use Rattle.std.specs.Prelude.{◌≡◌, ℕ, ◌+◌, ◌-◌, ◌*◌, ◌<◌, ◌≤◌, List, ◌∷◌, ◌++◌, IsTrue, length, take}
+use Rattle.std.specs.FinMap as fin
 use Rattle.staging_spec.specs.Blocks.{block_size, is_among, met, touch, untouch, Rise}
 use Rattle.staging_spec.specs.Content.{zeros, patch, resize}
 use Rattle.staging_spec.specs.Overlays.{staging_over, held_of, StandsOver}
+use Rattle.staging_spec.specs.StagedFiles.{StagedContent, StagedFiles, blocks_of, blocks_in, blocks_at}
 use Rattle.staging_spec.specs.Staging.{Staging, staged, written, resized, needed}
 
 -- bytes cut off never come back: a shrink and then a growth shows zeros
@@ -25,6 +27,15 @@ WritesCount = (touched : List ℕ) (first count : ℕ) → Rise touched → leng
 -- a size change touches none
 abbrev pub ResizesCount : Type 0
 ResizesCount = (touched : List ℕ) (size : ℕ) → length (untouch touched size) ≤ length touched
+
+-- ---- the blocks of all files
+-- a staged content put in, where another of its file was or none, adds its blocks in place of those
+abbrev pub PutsCount : Type 0
+PutsCount = (files : StagedFiles) (number : ℕ) (staged : StagedContent) → blocks_in (fin.insert files number staged) + blocks_at files number ≡ blocks_in files + blocks_of staged
+
+-- one let go leaves those of the others
+abbrev pub EndsCount : Type 0
+EndsCount = (files : StagedFiles) (number : ℕ) → blocks_in (fin.remove files number) + blocks_at files number ≡ blocks_in files
 
 -- ---- what is held of staged content
 -- it shows the staged content again, over the source that this stands over

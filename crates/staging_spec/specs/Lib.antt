@@ -5,4 +5,5 @@ pub mod Staging
 pub mod Wanted
 pub mod Slices
 pub mod Overlays
+pub mod StagedFiles
 pub mod Laws

@@ -3,4 +3,4 @@
 
 mod laws;
 
-pub use laws::{content_laws, overlay_laws};
+pub use laws::{content_laws, file_laws, overlay_laws};

@@ -1,8 +1,8 @@
 use Rattle.std.proofs.Common.{◌≡◌, ℕ, ◌+◌, ◌-◌, ◌/◌, Bool, true, false, cond, refl, ◌∙◌, sym, arith}
 use Rattle.staged_file.specs.Staged.{touched_of}
 use Rattle.staged_file.proofs.Positions.{new_ones, new-few, new-counted}
-use Rattle.staged_file.proofs.staged.Staged.count_new.Goals as goal
-use Rattle.staged_file.proofs.staged.Staged.count_new.Goals.{then-not-holds, else-not-holds}
+use Rattle.staged_file.proofs.staged.Staged.needed.Goals as goal
+use Rattle.staged_file.proofs.staged.Staged.needed.Goals.{then-not-holds, else-not-holds}
 
 pub overflow_add-needed : goal.overflow_add-needed
 overflow_add-needed c =

@@ -1,0 +1,3 @@
+-- The words that the contracts of `staging_table` cite.
+pub mod Stagings
+pub mod Tables
