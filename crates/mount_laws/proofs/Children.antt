@@ -1,5 +1,5 @@
 -- The paths of children: a part of a live directory has a path, and a directory's prefix.
-use Rattle.std.proofs.Common.{◌≡◌, ◌≢◌, ◌≤◌, ℕ, Bool, true, false, List, [], ◌∷◌, Option, Some, None, refl, sym, ap, subst, ◌∙◌, length, option_map}
+use Rattle.std.proofs.Common.{◌≡◌, ◌≤◌, ℕ, Bool, true, false, List, [], ◌∷◌, Option, Some, None, refl, sym, ap, subst, ◌∙◌, length, option_map}
 use Rattle.std.proofs.lemmas.List.Elements.{All-nil}
 use Rattle.std.specs.FinMap as fin
 use Rattle.bucket_api.specs.Metadata.{Metadata}
@@ -9,7 +9,7 @@ use Rattle.object_names.specs.Components.{IsComponent}
 use Rattle.object_names.specs.Paths.{IsPath, IsPrefix, dir_prefix_of}
 use Rattle.object_names.specs.declared.shown.NodeKind.TheVariants.{Dir}
 use Rattle.mount_rules.specs.Guards.{in_directory, part_refusal, path_in}
-use Rattle.mount_rules.specs.Mount.{IsMount, IsNameOf, MountModel, Node, NodeTable}
+use Rattle.mount_rules.specs.Mount.{File, IsKeptOf, IsMount, IsNameOf, MountModel, Node, NodeTable}
 use Rattle.mount_rules.specs.View.{Sight, child_of, sight_at, sight_of}
 use Rattle.mount_laws.proofs.Guarding.{in_directory-none, part_refusal-none}
 use Rattle.mount_laws.proofs.Keeping.{no_Some, same_Some}
@@ -76,7 +76,10 @@ IsNameOf-object meta path is = by (has_target meta.pairs)
     by true = is
     by false = is
 
--- and no directory
-pub no_directory : (link : Bool) → file_or_link link ≢ Dir
-no_directory true e = absurd cc
-no_directory false e = absurd cc
+-- of which something is kept
+pub IsKeptOf-object : (meta : Metadata) (file : File) → IsKeptOf (file_or_link (has_target meta.pairs)) (Some file)
+IsKeptOf-object meta file = by (has_target meta.pairs)
+  where
+    by : (link : Bool) → IsKeptOf (file_or_link link) (Some file)
+    by true = refl
+    by false = refl

@@ -1,5 +1,4 @@
--- Each generation that a file shows was live at some time, with content of the file's size, and no file that is open is a
--- directory: so it stays, call after call.
+-- Each generation that a file shows was live at some time, with content of the file's size: so it stays, call after call.
 use Rattle.std.proofs.Common.{◌≡◌, ◌++◌, ℕ, List, All, Option, Some, None, refl, sym, ap, subst, ◌∙◌, ◌⊎◌, inl, inr}
 use Rattle.std.specs.FinMap as fin
 use Rattle.bucket_api.proofs.ContentLaws.{content_of-grown}
@@ -11,11 +10,11 @@ use Rattle.mount_rules.specs.Laws.{FilesHaveContent, FilesKeepContent}
 use Rattle.mount_rules.specs.Mount.{File, IsMount, Node, NodeTable}
 use Rattle.mount_rules.specs.OneThread.{Call, Ending, IsLawful, RunState, at_state, mount_by, performed, short, stale, state_after_call}
 use Rattle.mount_laws.proofs.Keeping.{no_Some, same_Some}
-use Rattle.mount_laws.proofs.RequestLaws.{handles_from, nodes_from}
-use Rattle.mount_laws.proofs.Sources.{HandlesFrom, HandlesFrom-table, IsGiven, NodesFrom, NodesFrom-same, WasThere, IsNewBy, shown_of}
+use Rattle.mount_laws.proofs.RequestLaws.{nodes_from}
+use Rattle.mount_laws.proofs.Sources.{IsTold, NodesFrom, NodesFrom-same, ShowsBy, WasThere, shown_of}
 use Rattle.mount_laws.proofs.Stores.{Grown-operations, HasContent, tells_along}
 
--- ---- what a call makes of nodes and of handles
+-- ---- what a call makes of nodes
 module _ (config : Config) (state : RunState) (call : Call) (is : IsMount state.mount) where
   pub nodes_of_call : IsBucket state.store.start → All (λ e. IsAllowed e.op) (state_after_call config state call).store.log → IsLawful config state call
       → NodesFrom (HasContent state.store.start (state_after_call config state call).store.log) state.mount.table (state_after_call config state call).mount.table
@@ -27,14 +26,6 @@ module _ (config : Config) (state : RunState) (call : Call) (is : IsMount state.
       by short = NodesFrom-same _ state.mount.table
       by stale = NodesFrom-same _ state.mount.table
 
-  pub handles_of_call : HandlesFrom state.mount (state_after_call config state call).mount
-  handles_of_call = by call.ending
-    where
-      by : (ending : Ending) → HandlesFrom state.mount (mount_by config state call ending)
-      by performed = handles_from (at_state config state) state.mount call.request call.seen is
-      by short = HandlesFrom-table state.mount state.mount.table
-      by stale = HandlesFrom-table state.mount state.mount.table
-
 -- ---- each generation has content
 -- the same of all nodes of a table
 abbrev ShowContent : BucketState → List LogEvent → NodeTable → Type 0
@@ -44,17 +35,17 @@ ShowContent start log table = (number : ℕ) (node : Node) (shown : ℕ × ℕ) 
 content_stays : (start : BucketState) (log more : List LogEvent) (name : List ℕ) (generation size : ℕ) → HasContent start log name generation size → HasContent start (log ++ more) name generation size
 content_stays start log more name generation size has = (has.0, content_of-grown start log more name generation has.0 has.1, has.2)
 
--- what each node of a table shows has content where each was there, or is new
+-- what each node of a table shows has content where each was there, or shows what was told
 show_content : (start : BucketState) (log more whole : List LogEvent) (table after : NodeTable) → whole ≡ log ++ more
     → NodesFrom (HasContent start whole) table after → ShowContent start log table → ShowContent start whole after
 show_content start log more whole table after grown from show number node shown there has = by (from number node there)
   where
-    by : WasThere table number node ⊎ IsGiven (HasContent start whole) table number node → HasContent start whole node.name shown.0 shown.1
+    by : WasThere table number node ⊎ IsTold (HasContent start whole) node → HasContent start whole node.name shown.0 shown.1
     by (inl was) =
         let before : HasContent start log was.old.name shown.0 shown.1 = show number was.old shown was.there (sym was.same.shown ∙ has) in
         subst (λ name. HasContent start whole name shown.0 shown.1) (sym was.same.name)
         (subst (λ (l : List LogEvent). HasContent start l was.old.name shown.0 shown.1) (sym grown) (content_stays start log more was.old.name shown.0 shown.1 before))
-    by (inr given) = (subst (IsNewBy (HasContent start whole) node.kind node.name) has given.new).0
+    by (inr told) = subst (ShowsBy (HasContent start whole) node.name) has told
 
 -- files are nodes that show something
 files_show : (state : RunState) → FilesHaveContent state → ShowContent state.store.start state.store.log state.mount.table

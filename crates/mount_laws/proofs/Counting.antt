@@ -52,9 +52,6 @@ module _ (table : NodeTable) (number : ℕ) where
       by true is = let same : lookups_of table k ≡ lookups_of table number = ap (lookups_of table) (sym (is_same k is)) in omega (arith, one, same)
       by false is = omega arith
 
-  pub counts_same : lookups_of table number ≡ (lookups_of table number + 0) - 0
-  counts_same = omega arith
-
   -- look-ups given back
   abbrev LessBy : ℕ → ℕ → NodeTable → Type 0
   LessBy k count after = lookups_of after number ≡ (lookups_of table number + 0) - (if nat_eq number k then count else 0)

@@ -13,7 +13,8 @@ use Rattle.object_names.specs.declared.shown.DirItem.{DirItem}
 use Rattle.object_names.specs.declared.shown.NodeKind.{NodeKind}
 use Rattle.object_names.specs.declared.shown.NodeKind.TheVariants.{Dir, File, Symlink}
 use Rattle.fuse_replies.specs.Errno.{ebadf, einval, enametoolong, enomem, enotdir, estale}
-use Rattle.mount_rules.specs.Guards.{errno_of_fault, file_opened, in_directory, in_file, is_directory, is_file_of, longest_read, not_directory, on_file, on_live, on_open_directory, on_open_file, part_refusal, size_refusal}
+use Rattle.mount_rules.specs.Guards.{errno_of_fault, file_opened, in_directory, in_file, is_directory, is_file_of, longest_read, not_directory, on_file, on_live}
+use Rattle.mount_rules.specs.Guards.{on_open_directory, on_open_file, part_refusal, size_refusal}
 use Rattle.mount_rules.specs.View.{Sight, View, child_of}
 use Rattle.mount_laws.proofs.Memory.{errors_differ}
 

@@ -1,5 +1,5 @@
 -- What changes of a table of nodes leave to other calls.
-use Rattle.std.proofs.Common.{◌≡◌, ◌<◌, ◌+◌, ℕ, Bool, true, false, cond, List, [], ◌∷◌, Option, Some, None, refl, sym, ap, subst, ◌∙◌, inl, inr, nat_eq, arith, option_map}
+use Rattle.std.proofs.Common.{◌≡◌, ◌<◌, ℕ, Bool, true, false, cond, List, [], ◌∷◌, Option, Some, None, refl, sym, ap, subst, ◌∙◌, inl, inr, nat_eq, arith, option_map}
 use Rattle.std.proofs.lemmas.Bool.Decides.{Decides-eqb}
 use Rattle.std.proofs.lemmas.Slice.Eq.{bytes_eq-Decides}
 use Rattle.std.specs.Prelude.{if◌then◌else◌, option_and_then, ◌-◌}
@@ -11,13 +11,11 @@ use Rattle.claim_spec.specs.Conflicts.{IsClaimed, IsOwned}
 use Rattle.claim_spec.specs.declared.claim.Claim.{Claim}
 use Rattle.claim_spec.specs.declared.claim.ClaimKey.{ClaimKey}
 use Rattle.claim_spec.specs.declared.claim.ClaimKey.TheVariants as key
-use Rattle.inode_spec.specs.Inodes.{Names, forgotten, forgotten_at, granted, let_go, with_inode, without_current}
-use Rattle.handle_table.specs.Handles.{Opened}
-use Rattle.mount_rules.specs.Mount.{File, IsMount, Node, NodeTable, MountModel}
-use Rattle.mount_rules.specs.Laws.{Keeps}
+use Rattle.inode_spec.specs.Inodes.{Names, forgotten, forgotten_at, granted, let_go, made_current, with_inode, without_current}
+use Rattle.mount_rules.specs.Mount.{File, Node, NodeTable}
 use Rattle.mount_rules.specs.View.{Sight, kept_at, sight_at, sight_of}
 use Rattle.mount_laws.proofs.Changes.{on_forgotten, on_forgotten_at, on_let_go}
-use Rattle.spare_maps.proofs.FinMaps.{get-insert_number, get-remove_number, get-insert_name, get-remove_name, number_put_other, number_taken_other}
+use Rattle.spare_maps.proofs.FinMaps.{get-insert_number, get-remove_number, get-insert_name, get-remove_name}
 
 -- the current nodes of names that are left
 abbrev LeavesNames : List Claim → NodeTable → Names → Type 0
@@ -50,10 +48,6 @@ abbrev kept_in : Option Node → Option Metadata
 kept_in found = option_and_then (λ (node : Node). option_map (λ (file : File). file.kept.meta) node.file) found
 
 module _ (table : NodeTable) (number : ℕ) where
-  sight_found : (found : Option Node) (sight : Sight) → option_map (sight_of number) found ≡ Some sight → found ≡ None → ⊥
-  sight_found None sight is none = no_Some is
-  sight_found (Some node) sight is none = cc
-
   -- a node put under a number
   sight_put : (k : ℕ) (v : Node) → sight_at (with_inode table k v) number ≡ cond (nat_eq number k) (Some (sight_of number v)) (sight_at table number)
   sight_put k v = ap (option_map (sight_of number)) (get-insert_number table.nodes k v number) ∙ by (nat_eq number k)
@@ -163,6 +157,15 @@ module _ (claimed : List Claim) (table : NodeTable) where
       current = left;
     }
 
+    -- it is written anew
+    pub TableKeeps-owned : (v : Node) → TableKeeps claimed table (with_inode table k v)
+    TableKeeps-owned v = TableKeeps-put v table.current (λ name unnamed owned. refl)
+
+    -- and becomes the current one of a name that is claimed
+    pub TableKeeps-current : (v : Node) (name : List ℕ) → IsClaimed claimed (key.Name name) → TableKeeps claimed table (made_current (with_inode table k v) k name)
+    TableKeeps-current v name named = TableKeeps-put v (fin.insert table.current name k)
+        (λ q mine owned. get-insert_name table.current name k q ∙ other_name q name _ _ (λ same. mine (subst (λ n. IsClaimed claimed (key.Name n)) (sym same) named)))
+
     -- its look-ups are given back
     pub TableKeeps-forgotten : (count : ℕ) (held : Bool) (node : Node) → TableKeeps claimed table (forgotten_at table k count held node)
     TableKeeps-forgotten count held node = on_forgotten_at (TableKeeps claimed table) table k count held node
@@ -193,42 +196,3 @@ module _ (claimed : List Claim) (table : NodeTable) where
     pub TableKeeps-let_go : TableKeeps claimed table (let_go table k)
     TableKeeps-let_go =
         on_let_go (TableKeeps claimed table) table k TableKeeps-same (λ node there idle. TableKeeps-taken table.current (λ name unnamed owned. refl))
-
--- a change of the table alone
-pub Keeps-table : (claimed : List Claim) (mount : MountModel) (table : NodeTable) → TableKeeps claimed mount.table table → Keeps claimed mount (record mount { table = table })
-Keeps-table claimed mount table keeps = record { sights = keeps.sights; handles = λ fh handle is mine. is; kept = keeps.kept; current = keeps.current }
-
--- nothing is changed
-pub Keeps-same : (claimed : List Claim) (mount : MountModel) → Keeps claimed mount mount
-Keeps-same claimed mount = Keeps-table claimed mount mount.table (TableKeeps-same claimed mount.table)
-
--- a change of the table, and a new handle under the next number
-pub Keeps-opened : (claimed : List Claim) (mount : MountModel) → IsMount mount → (table : NodeTable) → TableKeeps claimed mount.table table → (handle : Opened)
-    → Keeps claimed mount (record mount { table = table; handles = fin.insert mount.handles mount.next_handle handle; next_handle = mount.next_handle + 1 })
-Keeps-opened claimed mount is table keeps handle = record {
-  sights = keeps.sights;
-  handles = λ fh h found mine. number_put_other mount.handles mount.next_handle handle fh (λ same. let low = is.handles fh h found in absurd (omega (arith, low, same))) ∙ found;
-  kept = keeps.kept;
-  current = keeps.current;
-}
-
--- a handle that is open no more, on a node that is owned
-pub Keeps-released : (claimed : List Claim) (mount : MountModel) (fh : ℕ) (handle : Opened) → fin.get mount.handles fh ≡ Some handle → IsOwned claimed (key.Node handle.node)
-    → Keeps claimed mount (record mount { handles = fin.remove mount.handles fh })
-Keeps-released claimed mount fh handle there owned = record {
-  sights = λ number sight is mine. is;
-  handles = λ k h found mine. number_taken_other mount.handles fh k
-      (λ same. mine (subst (λ (x : Opened). IsOwned claimed (key.Node x.node)) (same_Some (sym there ∙ ap (fin.get mount.handles) (sym same) ∙ found)) owned)) ∙ found;
-  kept = λ number sight is mine named. refl;
-  current = λ name mine owned. refl;
-}
-
--- one change after another
-pub Keeps-then : (claimed : List Claim) (first second third : MountModel) → Keeps claimed first second → Keeps claimed second third → Keeps claimed first third
-Keeps-then claimed first second third one two = record {
-  sights = λ number sight is mine. two.sights number sight (one.sights number sight is mine) mine;
-  handles = λ fh handle is mine. two.handles fh handle (one.handles fh handle is mine) mine;
-  kept = λ number sight is mine named.
-      two.kept number sight (one.sights number sight is (λ owned. mine (claimed_by_owner claimed (key.Node number) owned))) mine named ∙ one.kept number sight is mine named;
-  current = λ name mine owned. two.current name mine (λ number is. owned number (sym (one.current name mine owned) ∙ is)) ∙ one.current name mine owned;
-}

@@ -11,9 +11,15 @@ no_error e = cc
 pub errors_differ : {errno : ℕ} → (errno ≡ enomem → ⊥) → Some errno ≢ Some enomem
 errors_differ {errno} other e = let same : errno ≡ enomem = cc in other same
 
--- no reply, and a reply without a body
+-- no reply, and a reply without a body, are no errors
+pub silent_is_none : (errno : ℕ) → Silent ≢ Error errno
+silent_is_none errno e = cc
+
 pub silent_answered : Silent ≢ Error enomem
-silent_answered e = cc
+silent_answered = silent_is_none enomem
+
+pub empty_is_none : (errno : ℕ) → Empty ≢ Error errno
+empty_is_none errno e = cc
 
 pub empty_answered : Empty ≢ Error enomem
-empty_answered e = cc
+empty_answered = empty_is_none enomem

@@ -1,237 +1,109 @@
--- What keeps a mount one: changes of its table and of its handles.
-use Rattle.std.proofs.Common.{◌≡◌, ◌≢◌, ◌<◌, ◌≤◌, ◌+◌, ◌-◌, ℕ, Bool, true, false, List, [], Option, Some, None, refl, sym, ap, subst, ◌∙◌, ◌⊎◌, inl, inr, nat_eq, nat_cmp, nat_le, nat_lt, arith}
-use Rattle.std.proofs.lemmas.Bool.{false≢true}
-use Rattle.std.proofs.lemmas.Bool.Decides.{Decides-eqb, nat_tests}
+-- What keeps a mount one: changes of its table, of its handles and of what is staged.
+use Rattle.std.proofs.Common.{◌≡◌, ◌≢◌, ◌<◌, ◌≤◌, ◌+◌, ℕ, Bool, List, [], Option, Some, None, refl, sym, ap, subst, ◌∙◌, ◌⊎◌, inl, inr, nat_cmp, arith}
 use Rattle.std.proofs.lemmas.List.Elements.{All-nil}
-use Rattle.std.specs.Prelude.{if◌then◌else◌, ◌||◌}
+use Rattle.std.specs.Prelude.{if◌then◌else◌, is_some}
 use Rattle.std.specs.Cmp.Lexicographic.{slice_cmp}
 use Rattle.std.specs.FinMap as fin
-use Rattle.std.specs.Option.{option_map_or}
 use Rattle.handle_table.specs.Handles.{Opened}
-use Rattle.inode_spec.specs.Inodes.{IsLiveUnder, forgotten, forgotten_at, granted, is_live, let_go, root, with_inode, without_current}
+use Rattle.inode_spec.specs.Inodes.{file_of, root}
 use Rattle.object_names.specs.Components.{IsComponent}
 use Rattle.object_names.specs.Paths.{IsPrefix}
+use Rattle.mount_rules.specs.Files.{with_staged, without_staged}
 use Rattle.mount_rules.specs.Laws.{GivesLater}
-use Rattle.mount_rules.specs.Mount.{IsMount, IsNameOf, MountModel, Node, NodeTable, first_mount}
-use Rattle.mount_laws.proofs.Changes.{on_forgotten, on_forgotten_at, on_let_go, unnamed, without_node}
-use Rattle.mount_laws.proofs.Keeping.{no_Some, same_Some}
-use Rattle.spare_maps.proofs.FinMaps.{number_put, number_put_same, number_put_other, number_taken, number_taken_other, name_put, name_taken}
+use Rattle.mount_rules.specs.Mount.{File, IsKeptOf, IsMount, IsNameOf, IsStagedAt, MountModel, Node, NodeTable, OpenHandles, first_mount}
+use Rattle.mount_rules.specs.Requests.Forget.{staged_beside, with_left}
+use Rattle.staging_spec.specs.StagedFiles.{StagedContent, StagedFiles}
+use Rattle.mount_laws.proofs.Staying.{FilesLeft, FilesStay, HasFile, OthersStay, one_or_two}
+use Rattle.mount_laws.proofs.Tables.{IsNodeTable, TableLater, TableLater-same}
+use Rattle.spare_maps.proofs.FinMaps.{number_put, number_taken}
 
--- what holds of the table of a mount
-pub record IsNodeTable (table : NodeTable) : Type 0 where
-  pub first : 2 ≤ table.next
-  pub nodes : (number : ℕ) (node : Node) → fin.get table.nodes number ≡ Some node → number < table.next
-  pub names : (number : ℕ) (node : Node) → fin.get table.nodes number ≡ Some node → IsNameOf node.kind node.name
-  pub current : (name : List ℕ) (number : ℕ) → fin.get table.current name ≡ Some number → IsLiveUnder table name number
-
--- the table is one, and gives no number again that an earlier one gave
-pub record TableLater (earlier table : NodeTable) : Type 0 where
-  pub is : IsNodeTable table
-  pub rises : earlier.next ≤ table.next
-
--- two numbers are one or not
-pub one_or_two : (m n : ℕ) → (m ≡ n) ⊎ (m ≢ n)
-one_or_two m n = by (nat_eq m n) refl
-  where
-    by : (b : Bool) → nat_eq m n ≡ b → (m ≡ n) ⊎ (m ≢ n)
-    by true is = inl ((Decides-eqb m n).0 is)
-    by false is = inr (λ same. false≢true (sym is ∙ (Decides-eqb m n).1 same))
-
-module _ (table : NodeTable) (is : IsNodeTable table) where
-  pub TableLater-same : TableLater table table
-  TableLater-same = record { is = is; rises = omega arith }
-
-  -- a node that is there is written anew, with its name, kind and life
-  pub TableLater-written : (number : ℕ) (old new : Node) → fin.get table.nodes number ≡ Some old → new.kind ≡ old.kind → new.name ≡ old.name
-      → (is_live number old ≡ true → is_live number new ≡ true) → TableLater table (with_inode table number new)
-  TableLater-written number old new there kind name live = record {
-    is = record {
-      first = is.first;
-      nodes = λ n node found. by_found n node found (λ x. n < table.next) (λ same one. is.nodes n old (ap (fin.get table.nodes) same ∙ there)) (is.nodes n node);
-      names = λ n node found. by_found n node found (λ x. IsNameOf x.kind x.name)
-          (λ same one. subst (λ k. IsNameOf k new.name) (sym kind) (subst (λ t. IsNameOf old.kind t) (sym name) (is.names number old there))) (is.names n node);
-      current = λ q n found. stays q n (is.current q n found);
-    };
-    rises = omega arith;
-  }
-    where
-      by_found : (n : ℕ) (node : Node) → fin.get (fin.insert table.nodes number new) n ≡ Some node → (P : Node → Type 0)
-          → (n ≡ number → new ≡ node → P new) → (fin.get table.nodes n ≡ Some node → P node) → P node
-      by_found n node found P put was = on (number_put table.nodes number new node n found)
-        where
-          on : ((n ≡ number) × (new ≡ node)) ⊎ (fin.get table.nodes n ≡ Some node) → P node
-          on (inl (same, one)) = subst P one (put same one)
-          on (inr old_one) = was old_one
-
-      stays : (q : List ℕ) (n : ℕ) → IsLiveUnder table q n → IsLiveUnder (with_inode table number new) q n
-      stays q n c = on (one_or_two n number)
-        where
-          on : (n ≡ number) ⊎ (n ≢ number) → IsLiveUnder (with_inode table number new) q n
-          on (inl same) =
-              let one : c.inode ≡ old = same_Some (sym c.there ∙ ap (fin.get table.nodes) same ∙ there) in
-              record {
-                inode = new;
-                there = ap (fin.get (fin.insert table.nodes number new)) same ∙ number_put_same table.nodes number new;
-                named = name ∙ ap (λ (x : Node). x.name) (sym one) ∙ c.named;
-                live = subst (λ m. is_live m new ≡ true) (sym same) (live (subst (λ m. is_live m old ≡ true) same (subst (λ x. is_live n x ≡ true) one c.live)));
-              }
-          on (inr other) = record { inode = c.inode; there = number_put_other table.nodes number new n other ∙ c.there; named = c.named; live = c.live }
-
-  -- a new live node becomes the current one of its name
-  pub TableLater-granted : (new : Node) → IsNameOf new.kind new.name → 1 ≤ new.lookups → TableLater table (granted table new)
-  TableLater-granted new named given = record {
-    is = record {
-      first = omega (arith, is.first);
-      nodes = λ n node found. nodes n node (number_put table.nodes table.next new node n found);
-      names = λ n node found. names n node (number_put table.nodes table.next new node n found);
-      current = λ q n found. current q n (name_put table.current new.name table.next n q found);
-    };
-    rises = omega arith;
-  }
-    where
-      nodes : (n : ℕ) (node : Node) → ((n ≡ table.next) × (new ≡ node)) ⊎ (fin.get table.nodes n ≡ Some node) → n < table.next + 1
-      nodes n node (inl (same, one)) = omega arith
-      nodes n node (inr was) = let low = is.nodes n node was in omega (arith, low)
-
-      names : (n : ℕ) (node : Node) → ((n ≡ table.next) × (new ≡ node)) ⊎ (fin.get table.nodes n ≡ Some node) → IsNameOf node.kind node.name
-      names n node (inl (same, one)) = subst (λ (x : Node). IsNameOf x.kind x.name) one named
-      names n node (inr was) = is.names n node was
-
-      new_live : is_live table.next new ≡ true
-      new_live = by (nat_eq table.next 1)
-        where
-          by : (b : Bool) → (b || nat_lt 0 new.lookups) ≡ true
-          by true = refl
-          by false = grind (arith, nat_tests, given)
-
-      current : (q : List ℕ) (n : ℕ) → ((q ≡ new.name) × (table.next ≡ n)) ⊎ (fin.get table.current q ≡ Some n) → IsLiveUnder (granted table new) q n
-      current q n (inl (same, next)) = record {
-        inode = new;
-        there = ap (fin.get (fin.insert table.nodes table.next new)) (sym next) ∙ number_put_same table.nodes table.next new;
-        named = sym same;
-        live = subst (λ m. is_live m new ≡ true) next new_live;
-      }
-      current q n (inr was) =
-          let c = is.current q n was in
-          let low = is.nodes n c.inode c.there in
-          record { inode = c.inode; there = number_put_other table.nodes table.next new n (λ same. absurd (omega (arith, low, same))) ∙ c.there; named = c.named; live = c.live }
-
-  -- look-ups of a node other than the root are given back
-  pub TableLater-forgotten : (number count : ℕ) (held : Bool) (node : Node) → number ≢ 1 → fin.get table.nodes number ≡ Some node
-      → TableLater table (forgotten_at table number count held node)
-  TableLater-forgotten number count held node other there = on_forgotten_at (TableLater table) table number count held node
-      (λ every. stays) (λ every. goes)
-      (λ fewer. TableLater-written number node (record node { lookups = node.lookups - count }) there refl refl (λ was. still fewer (nat_eq number 1)))
-    where
-      -- the names that are left have other nodes, as they had
-      names_left : (q : List ℕ) (n : ℕ) → fin.get (without_current table.current node.name number) q ≡ Some n → (n ≢ number) × (fin.get table.current q ≡ Some n)
-      names_left q n = at (fin.get table.current node.name) refl
-        where
-          named : fin.get table.current q ≡ Some number → node.name ≡ q
-          named c = let was = is.current q number c in ap (λ (x : Node). x.name) (same_Some (sym there ∙ was.there)) ∙ was.named
-
-          on : (b : Bool) (k : ℕ) → fin.get table.current node.name ≡ Some k → nat_eq number k ≡ b
-              → fin.get (if b then fin.remove table.current node.name else table.current) q ≡ Some n → (n ≢ number) × (fin.get table.current q ≡ Some n)
-          on true k was e found =
-              let kept = name_taken table.current node.name n q found in (λ same. kept.0 (sym (named (kept.1 ∙ ap Some same))), kept.1)
-          on false k was e found =
-              (λ same. false≢true (sym e ∙ (Decides-eqb number k).1 (same_Some (sym (found ∙ ap Some same) ∙ ap (fin.get table.current) (sym (named (found ∙ ap Some same))) ∙ was))), found)
-
-          at : (o : Option ℕ) → fin.get table.current node.name ≡ o
-              → fin.get (if option_map_or (nat_eq number) o false then fin.remove table.current node.name else table.current) q ≡ Some n → (n ≢ number) × (fin.get table.current q ≡ Some n)
-          at None was found = (λ same. no_Some (sym was ∙ ap (fin.get table.current) (named (found ∙ ap Some same)) ∙ found), found)
-          at (Some k) was found = on (nat_eq number k) k was refl found
-
-      current_other : (nodes : fin.FinMap nat_cmp Node) → ((n : ℕ) → n ≢ number → fin.get nodes n ≡ fin.get table.nodes n)
-          → (q : List ℕ) (n : ℕ) → fin.get (without_current table.current node.name number) q ≡ Some n
-          → IsLiveUnder (record table { nodes = nodes; current = without_current table.current node.name number }) q n
-      current_other nodes same q n found =
-          let left = names_left q n found in
-          let c = is.current q n left.1 in
-          record { inode = c.inode; there = same n left.0 ∙ c.there; named = c.named; live = c.live }
-
-      put : (n : ℕ) (x : Node) → ((n ≡ number) × (record node { lookups = 0 } ≡ x)) ⊎ (fin.get table.nodes n ≡ Some x) → (n < table.next) × IsNameOf x.kind x.name
-      put n x (inl (same, one)) = (is.nodes n node (ap (fin.get table.nodes) same ∙ there), subst (λ (y : Node). IsNameOf y.kind y.name) one (is.names number node there))
-      put n x (inr was) = (is.nodes n x was, is.names n x was)
-
-      stays : TableLater table (unnamed table number node (fin.insert table.nodes number (record node { lookups = 0 })))
-      stays = record {
-        is = record {
-          first = is.first;
-          nodes = λ n x found. (put n x (number_put table.nodes number (record node { lookups = 0 }) x n found)).0;
-          names = λ n x found. (put n x (number_put table.nodes number (record node { lookups = 0 }) x n found)).1;
-          current = current_other (fin.insert table.nodes number (record node { lookups = 0 })) (number_put_other table.nodes number (record node { lookups = 0 }));
-        };
-        rises = omega arith;
-      }
-
-      goes : TableLater table (unnamed table number node (fin.remove table.nodes number))
-      goes = record {
-        is = record {
-          first = is.first;
-          nodes = λ n x found. is.nodes n x (number_taken table.nodes number x n found).1;
-          names = λ n x found. is.names n x (number_taken table.nodes number x n found).1;
-          current = current_other (fin.remove table.nodes number) (number_taken_other table.nodes number);
-        };
-        rises = omega arith;
-      }
-
-      still : nat_le node.lookups count ≡ false → (root_one : Bool) → (root_one || nat_lt 0 (node.lookups - count)) ≡ true
-      still more true = refl
-      still more false = grind (arith, nat_tests, more)
-
-  pub TableLater-given_back : (number count : ℕ) (held : Bool) → TableLater table (forgotten table number count held)
-  TableLater-given_back number count held = on_forgotten (TableLater table) table number count held TableLater-same
-      (λ node other there some. TableLater-forgotten number count held node other there)
-
-  -- a node that isn't live goes with its last handle
-  pub TableLater-let_go : (number : ℕ) → TableLater table (let_go table number)
-  TableLater-let_go number = on_let_go (TableLater table) table number TableLater-same gone
-    where
-      gone : (node : Node) → fin.get table.nodes number ≡ Some node → is_live number node ≡ false → TableLater table (without_node table number)
-      gone node there idle = record {
-        is = record {
-          first = is.first;
-          nodes = λ n x found. is.nodes n x (number_taken table.nodes number x n found).1;
-          names = λ n x found. is.names n x (number_taken table.nodes number x n found).1;
-          current = λ q n found. stays q n (is.current q n found);
-        };
-        rises = omega arith;
-      }
-        where
-          stays : (q : List ℕ) (n : ℕ) → IsLiveUnder table q n → IsLiveUnder (record table { nodes = fin.remove table.nodes number }) q n
-          stays q n c = record { inode = c.inode; there = number_taken_other table.nodes number n other ∙ c.there; named = c.named; live = c.live }
-            where
-              other : n ≢ number
-              other same =
-                  let one : c.inode ≡ node = same_Some (sym c.there ∙ ap (fin.get table.nodes) same ∙ there) in
-                  false≢true (sym idle ∙ subst (λ m. is_live m node ≡ true) same (subst (λ (x : Node). is_live n x ≡ true) one c.live))
-
--- ---- the mount around its table
 pub IsNodeTable-of : (mount : MountModel) → IsMount mount → IsNodeTable mount.table
-IsNodeTable-of mount is = record { first = is.first; nodes = is.nodes; names = is.names; current = is.current }
+IsNodeTable-of mount is = record { first = is.first; nodes = is.nodes; names = is.names; files = is.files; current = is.current }
+
+-- what is staged of a file stays so where the file does
+staged_stays : (table after : NodeTable) (number : ℕ) (s : StagedContent) → IsStagedAt table number s
+    → ((file : File) → file_of table number ≡ Some file → HasFile after.nodes number file.size) → IsStagedAt after number s
+staged_stays table after number s at stays =
+    let has = stays at.file at.there in record { file = has.file; there = has.there; limit = subst (λ n. s.overlay.limit ≤ n) (sym has.sized) at.limit }
 
 module _ (mount : MountModel) (is : IsMount mount) where
-  pub GivesLater-table : (table : NodeTable) → TableLater mount.table table → GivesLater mount (record mount { table = table })
-  GivesLater-table table later = record {
-    is = record { first = later.is.first; nodes = later.is.nodes; names = later.is.names; current = later.is.current; handles = is.handles };
+  abbrev AreStaged : NodeTable → StagedFiles → Type 0
+  AreStaged table staged = (number : ℕ) (s : StagedContent) → fin.get staged number ≡ Some s → IsStagedAt table number s
+
+  with_table : (table : NodeTable) (staged : StagedFiles) → TableLater mount.table table → AreStaged table staged → GivesLater mount (record mount { table = table; staged = staged })
+  with_table table staged later are = record {
+    is = record {
+      first = later.is.first;
+      nodes = later.is.nodes;
+      names = later.is.names;
+      files = later.is.files;
+      current = later.is.current;
+      handles = is.handles;
+      staged = are;
+    };
     nodes = later.rises;
     handles = omega arith;
   }
 
+  -- other nodes, among which each file stays
+  pub GivesLater-table : (table : NodeTable) → TableLater mount.table table → FilesStay mount.table.nodes table.nodes → GivesLater mount (record mount { table = table })
+  GivesLater-table table later stay = with_table table mount.staged later (λ n s found. staged_stays mount.table table n s (is.staged n s found) (stay n))
+
+  -- other nodes, from which one may have gone, and what is staged of it
+  pub GivesLater-left : (k : ℕ) (table : NodeTable) → TableLater mount.table table → FilesLeft k mount.table.nodes table.nodes → GivesLater mount (with_left k table mount)
+  GivesLater-left k table later left = with_table table (staged_beside table k mount.staged) later (by (fin.get table.nodes k) refl)
+    where
+      by : (found : Option Node) → fin.get table.nodes k ≡ found → AreStaged table (if is_some found then mount.staged else fin.remove mount.staged k)
+      by (Some node) there n s found = staged_stays mount.table table n s (is.staged n s found) (λ file has. on file has (one_or_two n k))
+        where
+          on : (file : File) → file_of mount.table n ≡ Some file → (n ≡ k) ⊎ (n ≢ k) → HasFile table.nodes n file.size
+          on file has (inr other) = left.others n file other has
+          on file has (inl same) =
+              let own = left.own node file there (ap (file_of mount.table) (sym same) ∙ has) in
+              record { file = own.file; there = ap (file_of table) same ∙ own.there; sized = own.sized }
+      by None gone n s found =
+          let was = number_taken mount.staged k s n found in
+          staged_stays mount.table table n s (is.staged n s was.1) (λ file has. left.others n file was.0 has)
+
+  -- a file shows another source, and nothing is staged of it any more
+  pub GivesLater-unstaged : (k : ℕ) (table : NodeTable) → TableLater mount.table table → OthersStay k mount.table.nodes table.nodes
+      → GivesLater mount (record (without_staged mount k) { table = table })
+  GivesLater-unstaged k table later others = with_table table (fin.remove mount.staged k) later (λ n s found.
+      let was = number_taken mount.staged k s n found in
+      staged_stays mount.table table n s (is.staged n s was.1) (λ file has. others n file was.0 has))
+
+  -- something is staged of a file that is there
+  pub GivesLater-staged : (k : ℕ) (s : StagedContent) → IsStagedAt mount.table k s → GivesLater mount (with_staged mount k s)
+  GivesLater-staged k s at = with_table mount.table (fin.insert mount.staged k s) (TableLater-same mount.table (IsNodeTable-of mount is))
+      (λ n x found. by n x (number_put mount.staged k s x n found))
+    where
+      by : (n : ℕ) (x : StagedContent) → ((n ≡ k) × (s ≡ x)) ⊎ (fin.get mount.staged n ≡ Some x) → IsStagedAt mount.table n x
+      by n x (inl (same, one)) = subst (IsStagedAt mount.table n) one (record { file = at.file; there = ap (file_of mount.table) same ∙ at.there; limit = at.limit })
+      by n x (inr was) = is.staged n x was
+
   pub GivesLater-same : GivesLater mount mount
   GivesLater-same = record { is = is; nodes = omega arith; handles = omega arith }
 
-  pub GivesLater-negotiated : (agreed : Bool) → GivesLater mount (record mount { negotiated = agreed })
-  GivesLater-negotiated agreed = record {
-    is = record { first = is.first; nodes = is.nodes; names = is.names; current = is.current; handles = is.handles };
-    nodes = omega arith;
-    handles = omega arith;
+  -- the same nodes and staged contents, beside other handles
+  beside : (handles : OpenHandles) (next : ℕ) (agreed : Bool) → ((fh : ℕ) (handle : Opened) → fin.get handles fh ≡ Some handle → fh < next)
+      → IsMount (record mount { handles = handles; next_handle = next; negotiated = agreed })
+  beside handles next agreed low = record {
+    first = is.first;
+    nodes = is.nodes;
+    names = is.names;
+    files = is.files;
+    current = is.current;
+    handles = low;
+    staged = is.staged;
   }
+
+  pub GivesLater-negotiated : (agreed : Bool) → GivesLater mount (record mount { negotiated = agreed })
+  GivesLater-negotiated agreed = record { is = beside mount.handles mount.next_handle agreed is.handles; nodes = omega arith; handles = omega arith }
 
   pub GivesLater-opened : (handle : Opened) → GivesLater mount (record mount { handles = fin.insert mount.handles mount.next_handle handle; next_handle = mount.next_handle + 1 })
   GivesLater-opened handle = record {
-    is = record { first = is.first; nodes = is.nodes; names = is.names; current = is.current; handles = λ fh h found. by fh h (number_put mount.handles mount.next_handle handle h fh found) };
+    is = beside (fin.insert mount.handles mount.next_handle handle) (mount.next_handle + 1) mount.negotiated
+        (λ fh h found. by fh h (number_put mount.handles mount.next_handle handle h fh found));
     nodes = omega arith;
     handles = omega arith;
   }
@@ -242,7 +114,7 @@ module _ (mount : MountModel) (is : IsMount mount) where
 
   pub GivesLater-released : (fh : ℕ) → GivesLater mount (record mount { handles = fin.remove mount.handles fh })
   GivesLater-released fh = record {
-    is = record { first = is.first; nodes = is.nodes; names = is.names; current = is.current; handles = λ k h found. is.handles k h (number_taken mount.handles fh h k found).1 };
+    is = beside (fin.remove mount.handles fh) mount.next_handle mount.negotiated (λ k h found. is.handles k h (number_taken mount.handles fh h k found).1);
     nodes = omega arith;
     handles = omega arith;
   }
@@ -257,8 +129,10 @@ IsMount-first = record {
   first = omega arith;
   nodes = λ n node found. nodes n node (number_put fin.empty 1 root node n found);
   names = λ n node found. names n node (number_put fin.empty 1 root node n found);
+  files = λ n node found. files n node (number_put fin.empty 1 root node n found);
   current = λ q n found. absurd (no_name q n found);
   handles = λ fh h found. absurd (no_handle fh h found);
+  staged = λ n s found. absurd (no_staged n s found);
 }
   where
     no_node : (n : ℕ) (node : Node) → fin.get {R = nat_cmp} fin.empty n ≡ Some node → ⊥
@@ -270,6 +144,9 @@ IsMount-first = record {
     no_handle : (fh : ℕ) (h : Opened) → fin.get {R = nat_cmp} fin.empty fh ≡ Some h → ⊥
     no_handle fh h found = let none : fin.get {X = Opened} {R = nat_cmp} fin.empty fh ≡ None = fin.get-empty nat_cmp fh in cc
 
+    no_staged : (n : ℕ) (s : StagedContent) → fin.get {R = nat_cmp} fin.empty n ≡ Some s → ⊥
+    no_staged n s found = let none : fin.get {X = StagedContent} {R = nat_cmp} fin.empty n ≡ None = fin.get-empty nat_cmp n in cc
+
     nodes : (n : ℕ) (node : Node) → ((n ≡ 1) × (root ≡ node)) ⊎ (fin.get {R = nat_cmp} fin.empty n ≡ Some node) → n < 2
     nodes n node (inl (same, one)) = omega arith
     nodes n node (inr was) = absurd (no_node n node was)
@@ -280,3 +157,7 @@ IsMount-first = record {
     names : (n : ℕ) (node : Node) → ((n ≡ 1) × (root ≡ node)) ⊎ (fin.get {R = nat_cmp} fin.empty n ≡ Some node) → IsNameOf node.kind node.name
     names n node (inl (same, one)) = subst (λ (x : Node). IsNameOf x.kind x.name) one root_named
     names n node (inr was) = absurd (no_node n node was)
+
+    files : (n : ℕ) (node : Node) → ((n ≡ 1) × (root ≡ node)) ⊎ (fin.get {R = nat_cmp} fin.empty n ≡ Some node) → IsKeptOf node.kind node.file
+    files n node (inl (same, one)) = subst (λ (x : Node). IsKeptOf x.kind x.file) one refl
+    files n node (inr was) = absurd (no_node n node was)

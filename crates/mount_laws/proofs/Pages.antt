@@ -34,6 +34,7 @@ use Rattle.mount_rules.specs.OneThread.{Observes, Store, after_operation, at_sta
 use Rattle.mount_rules.specs.Plans.{done}
 use Rattle.mount_rules.specs.Requests.Opendir as opendir
 use Rattle.mount_laws.specs.Listings.{PagesAreFull, keys_in}
+use Rattle.mount_laws.proofs.Stores.{observes_none}
 
 -- a filter passes no more than there is
 few : (p : List ℕ → Bool) (keys : List (List ℕ)) → length (filter p keys) ≤ length keys
@@ -92,8 +93,7 @@ after_both (Some a) key h x g = by (text_cmp a key) refl h (text_cmp key x) refl
 
 -- a plan that asks nothing observes nothing
 none_observed : (store : Store) (seen : List Observed) → Observes (λ answers. done) store seen → length seen ≤ 0
-none_observed store [] observed = omega arith
-none_observed store (o ∷ more) observed = let asked : None ≡ Some o.op = observed.0.asked in absurd (let never : None ≡ Some o.op = asked in cc)
+none_observed store seen observed = let none = ap length (observes_none (λ answers. done) refl store seen observed) in omega (arith, none)
 
 module _ (entries : List (List ℕ × Object)) (prefix : List ℕ) (max : ℕ) where
   abbrev keys_left : Option (List ℕ) → List (List ℕ)

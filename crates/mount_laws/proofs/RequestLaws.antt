@@ -8,22 +8,29 @@ use Rattle.claim_spec.specs.Conflicts.{AreApart}
 use Rattle.fuse_replies.specs.declared.reply.Reply.{Reply}
 use Rattle.fuse_replies.specs.declared.reply.Reply.TheVariants.{Error, Silent}
 use Rattle.fuse_requests.specs.declared.request.Request.{Request}
-use Rattle.fuse_requests.specs.declared.request.Request.TheVariants.{Lookup, Forget, Getattr, BatchForget, Interrupt, Init, Opening, Read, Release, Statfs, Opendir, Readdir, Releasedir, Fsyncdir, Create, Destroy, Unknown}
+use Rattle.fuse_requests.specs.declared.request.Request.TheVariants.{Lookup, Forget, BatchForget, Interrupt, Getattr, Setattr, Init, Opening, Read, Write, Flush, Fsync}
+use Rattle.fuse_requests.specs.declared.request.Request.TheVariants.{Release, Statfs, Opendir, Readdir, Releasedir, Fsyncdir, Create, Destroy, Unknown}
 use Rattle.inode_spec.specs.Inodes.{lookups_of}
-use Rattle.mount_rules.specs.Dispatch.{early, goes_on, is_among, is_idle, is_init, is_silent, mount_after, plan, claims, reply_to, rules_of, served_opcodes, silent_opcodes, taken_at, unread, view_in, wants}
+use Rattle.mount_rules.specs.Dispatch.{early, goes_on, is_among, is_full, is_idle, is_init, is_silent, mount_after, plan, claims}
+use Rattle.mount_rules.specs.Dispatch.{reply_to, rules_of, served_opcodes, silent_opcodes, taken_at, unread, view_in, wants}
 use Rattle.fuse_replies.specs.Errno.{einval, enomem, enosys, eproto}
-use Rattle.mount_rules.specs.Laws.{AsksAtMost, ClaimsCover, ClaimsProtect, GivesLater, HarmlessWhileAsking, IsCovered, IsOfFile, Keeps, LeavesOthers, MayReadWanted, NeverOutOfMemory, Planned, StaysMount, WantsOfFiles, back_by, given, given_back, most_asked}
+use Rattle.mount_rules.specs.Laws.{AsksAtMost, ClaimsCover, ClaimsProtect, GivesLater, HarmlessWhileAsking, IsAnswerTo, IsCovered, IsOfFile, Keeps, LeavesOthers, MayReadWanted}
+use Rattle.mount_rules.specs.Laws.{NeverOutOfMemory, Planned, StaysMount, WantsOfFiles, back_by, given, given_back, most_asked}
 use Rattle.mount_rules.specs.Mount.{IsMount, MountModel}
 use Rattle.mount_model.specs.Observing.{Observed}
+use Rattle.mount_model.specs.declared.config.Config.{Config}
 use Rattle.mount_rules.specs.Plans.{Allows, IsHarmless, Plan, Source, Step, Wanted, answers_of, done, may_read}
 use Rattle.mount_rules.specs.Rules.{AtTake, Taken}
 use Rattle.mount_laws.proofs.Asking.{asks_none}
-use Rattle.mount_laws.proofs.Keeping.{Keeps-same, no_Some}
+use Rattle.mount_laws.proofs.Keeping.{no_Some}
+use Rattle.mount_laws.proofs.Leaving.{Keeps-same}
 use Rattle.mount_laws.proofs.Memory.{errors_differ, no_error}
 use Rattle.mount_laws.proofs.Mounts.{GivesLater-same}
 use Rattle.mount_laws.proofs.Requests.BatchForget.{batch_forget_sound}
 use Rattle.mount_laws.proofs.Requests.Create.{create_sound}
+use Rattle.mount_laws.proofs.Requests.Flush.{flush_sound}
 use Rattle.mount_laws.proofs.Requests.Forget.{forget_sound}
+use Rattle.mount_laws.proofs.Requests.Fsync.{fsync_sound}
 use Rattle.mount_laws.proofs.Requests.Fsyncdir.{fsyncdir_sound}
 use Rattle.mount_laws.proofs.Requests.Getattr.{getattr_sound}
 use Rattle.mount_laws.proofs.Requests.Init.{init_sound}
@@ -34,11 +41,13 @@ use Rattle.mount_laws.proofs.Requests.Read.{read_sound}
 use Rattle.mount_laws.proofs.Requests.Readdir.{readdir_sound}
 use Rattle.mount_laws.proofs.Requests.Release.{release_sound}
 use Rattle.mount_laws.proofs.Requests.Releasedir.{releasedir_sound}
+use Rattle.mount_laws.proofs.Requests.Setattr.{setattr_sound}
 use Rattle.mount_laws.proofs.Requests.Statfs.{destroy_sound, statfs_sound}
 use Rattle.mount_laws.proofs.Requests.Unserved.{unserved_sound}
+use Rattle.mount_laws.proofs.Requests.Write.{write_sound}
 use Rattle.mount_laws.proofs.Sights.{view_stays}
 use Rattle.mount_laws.proofs.Sound.{GoesOn, IsSound}
-use Rattle.mount_laws.proofs.Sources.{HandlesFrom, HandlesFrom-table, NodesFrom, NodesFrom-same}
+use Rattle.mount_laws.proofs.Sources.{NodesFrom, NodesFrom-same}
 use Rattle.mount_laws.proofs.Telling.{TellsAlong}
 
 unread-other : (opcode : ℕ) → unread opcode ≢ Some enomem
@@ -57,8 +66,12 @@ sound (Lookup node name) = lookup_sound node name
 sound (Forget node count) = forget_sound node count
 sound (BatchForget pairs) = batch_forget_sound pairs.items
 sound (Getattr node) = getattr_sound node
+sound (Setattr node valid size mtime nanos) = setattr_sound node (record { valid = valid; size = size; seconds = mtime; nanos = nanos })
 sound (Opening node flags) = open_sound node
 sound (Read node fh first size) = read_sound node fh first size
+sound (Write node fh first content) = write_sound node fh first content
+sound (Flush node fh) = flush_sound node fh
+sound (Fsync node fh) = fsync_sound node fh
 sound (Release node fh) = release_sound node fh
 sound Statfs = statfs_sound
 sound (Init major minor readahead flags) = init_sound major minor readahead flags
@@ -73,9 +86,14 @@ sound (Unknown opcode) = unserved_sound (unread opcode) (unread-other opcode)
 sound _ = unserved_sound (Some enosys) not_served
 
 -- ---- the dispatcher
--- a request goes on where its own rules refuse nothing
-pub goes : (mount : MountModel) (request : Request) → IsMount mount → goes_on mount request ≡ true → GoesOn (rules_of request) mount
-goes mount request is on = record { is = is; free = free }
+-- a request goes on where it has an effect and nothing refuses it
+pub goes_by : (mount : MountModel) (request : Request) (idle : Bool) (errno : Option ℕ) → is_idle mount request ≡ idle → early mount request ≡ errno
+    → goes_on mount request ≡ (not idle && not (is_some errno))
+goes_by mount request idle errno i e = ap (λ b. not b && not (is_some (early mount request))) i ∙ ap (λ o. not idle && not (is_some o)) e
+
+-- its own rules refuse nothing then
+pub unrefused : (mount : MountModel) (request : Request) → goes_on mount request ≡ true → (rules_of request).refusal (view_in mount request) ≡ None
+unrefused mount request on = inner (not mount.negotiated && not (is_silent request) && not (is_init request)) _ (none (is_idle mount request) (early mount request) on)
   where
     none : (idle : Bool) (errno : Option ℕ) → (not idle && not (is_some errno)) ≡ true → errno ≡ None
     none true errno e = absurd (false≢true e)
@@ -86,8 +104,8 @@ goes mount request is on = record { is = is; free = free }
     inner true refusal e = absurd (let never : Some eproto ≡ None = e in cc)
     inner false refusal e = e
 
-    free : (rules_of request).refusal (view_in mount request) ≡ None
-    free = inner (not mount.negotiated && not (is_silent request) && not (is_init request)) _ (none (is_idle mount request) (early mount request) on)
+pub goes : (mount : MountModel) (request : Request) → IsMount mount → goes_on mount request ≡ true → GoesOn (rules_of request) mount
+goes mount request is on = record { is = is; free = unrefused mount request on }
 
 module _ (at : AtTake) (mount : MountModel) (request : Request) (seen : List Observed) (is : IsMount mount) where
   abbrev after : MountModel
@@ -148,10 +166,11 @@ pub harmless_while_asking : HarmlessWhileAsking
 harmless_while_asking at mount request seen = by (goes_on mount request)
   where
     by : (on : Bool) → Planned (if on then (rules_of request).plan (taken_at at mount request) else (λ answers. done)) seen
+        → AllByRecursion (λ (o : Observed). IsAnswerTo o.op o.answer) seen
         → ((if on then (rules_of request).plan (taken_at at mount request) else (λ answers. done)) (answers_of seen) ≢ done)
         → AllByRecursion (λ (o : Observed). IsHarmless o.op) seen
-    by true planned asks = (sound request).harmless (taken_at at mount request) seen planned asks
-    by false planned asks = absurd (asks refl)
+    by true planned fits asks = (sound request).harmless (taken_at at mount request) seen planned fits asks
+    by false planned fits asks = absurd (asks refl)
 
 pub asks_at_most : AsksAtMost
 asks_at_most at mount request seen most is = by (goes_on mount request)
@@ -161,22 +180,27 @@ asks_at_most at mount request seen most is = by (goes_on mount request)
     by false planned = let few : length seen ≤ 0 = asks_none (λ answers. done) refl seen planned in omega (arith, few)
 
 -- ---- what is wanted of sources
+-- a WRITE that is refused for want of blocks wants nothing
+wanted_where : (full : Bool) (found : Option Wanted) (wanted : Wanted) → (if full then None else found) ≡ Some wanted → found ≡ Some wanted
+wanted_where true found wanted e = absurd (no_Some e)
+wanted_where false found wanted e = e
+
 pub may_read_wanted : MayReadWanted
-may_read_wanted at mount request wanted = by (goes_on mount request)
+may_read_wanted config at mount request wanted = by (goes_on mount request)
   where
-    by : (on : Bool) → (if on then (rules_of request).wants (view_in mount request) else None) ≡ Some wanted
+    by : (on : Bool) → (if on then (if is_full config mount request then None else (rules_of request).wants (view_in mount request)) else None) ≡ Some wanted
         → (source : Source) × (next : Step) × ((if on then (rules_of request).plan (taken_at at mount request) else (λ answers. done)) [] ≡ may_read source next)
-    by true wants_it = (sound request).reads (taken_at at mount request) wanted wants_it
+    by true wants_it = (sound request).reads (taken_at at mount request) wanted (wanted_where (is_full config mount request) _ wanted wants_it)
     by false wants_it = absurd (no_Some wants_it)
 
 pub wants_of_files : WantsOfFiles
-wants_of_files mount request wanted = by (goes_on mount request)
+wants_of_files config mount request wanted is = by (goes_on mount request)
   where
-    by : (on : Bool) → (if on then (rules_of request).wants (view_in mount request) else None) ≡ Some wanted → IsOfFile mount wanted
-    by true wants_it = (sound request).of_files mount wanted wants_it
+    by : (on : Bool) → (if on then (if is_full config mount request then None else (rules_of request).wants (view_in mount request)) else None) ≡ Some wanted → IsOfFile mount wanted
+    by true wants_it = (sound request).of_files mount wanted is (wanted_where (is_full config mount request) _ wanted wants_it)
     by false wants_it = absurd (no_Some wants_it)
 
--- ---- where nodes and open files come from
+-- ---- where nodes come from
 pub nodes_from : (Shown : List ℕ → ℕ → ℕ → Type 0) (at : AtTake) (mount : MountModel) (request : Request) (seen : List Observed) → IsMount mount
     → TellsAlong Shown (plan at mount request) seen → NodesFrom Shown mount.table (mount_after at mount request seen).table
 nodes_from Shown at mount request seen is = by (goes_on mount request) refl
@@ -185,13 +209,6 @@ nodes_from Shown at mount request seen is = by (goes_on mount request) refl
         → NodesFrom Shown mount.table (if on then (rules_of request).after (taken_at at mount request) mount seen else mount).table
     by true e tells = (sound request).nodes Shown at mount seen (goes mount request is e) tells
     by false e tells = NodesFrom-same Shown mount.table
-
-pub handles_from : (at : AtTake) (mount : MountModel) (request : Request) (seen : List Observed) → IsMount mount → HandlesFrom mount (mount_after at mount request seen)
-handles_from at mount request seen is = by (goes_on mount request) refl
-  where
-    by : (on : Bool) → goes_on mount request ≡ on → HandlesFrom mount (if on then (rules_of request).after (taken_at at mount request) mount seen else mount)
-    by true e = (sound request).handles at mount seen (goes mount request is e)
-    by false e = HandlesFrom-table mount mount.table
 
 -- ---- replies
 -- no request that is performed to its end is answered ENOMEM
@@ -253,16 +270,13 @@ counts at mount request seen number is other = by (is_idle mount request) (early
         → lookups_of mount.table number ≡ (lookups_of mount.table number + given reply number) - given_back mount request number
     stays reply none kept = omega (arith, none, kept)
 
-    goes_by : (idle : Bool) (errno : Option ℕ) → is_idle mount request ≡ idle → early mount request ≡ errno → goes_on mount request ≡ (not idle && not (is_some errno))
-    goes_by idle errno i e = ap (λ b. not b && not (is_some (early mount request))) i ∙ ap (λ o. not idle && not (is_some o)) e
-
     by : (idle : Bool) (errno : Option ℕ) → is_idle mount request ≡ idle → early mount request ≡ errno
         → lookups_of (if not idle && not (is_some errno) then (rules_of request).after taken mount seen else mount).table number
         ≡ (lookups_of mount.table number + given (if idle then Silent else option_map_or Error errno ((rules_of request).reply taken mount seen)) number) - given_back mount request number
-    by true errno i e = stays Silent refl (back_off mount request number (goes_by true errno i e))
-    by false (Some errno) i e = stays (Error errno) refl (back_off mount request number (goes_by false (Some errno) i e))
+    by true errno i e = stays Silent refl (back_off mount request number (goes_by mount request true errno i e))
+    by false (Some errno) i e = stays (Error errno) refl (back_off mount request number (goes_by mount request false (Some errno) i e))
     by false None i e =
-        let on = goes_by false None i e in
+        let on = goes_by mount request false None i e in
         let same = back_on mount request number on in
         let one = (sound request).counts at mount seen number other (goes mount request is on) in
         one ∙ ap (λ n. (lookups_of mount.table number + given ((rules_of request).reply taken mount seen) number) - n) (sym same)
@@ -276,7 +290,8 @@ back_asks at mount (Forget node count) number asks = absurd (asks (ap (λ (p : P
 back_asks at mount (BatchForget pairs) number asks = absurd (asks (ap (λ (p : Plan). p []) (same_either (goes_on mount (BatchForget pairs)) quiet)))
 back_asks at mount _ number asks = same_either mount.negotiated 0
 
-pub back_wants : (mount : MountModel) (request : Request) (wanted : Wanted) (number : ℕ) → wants mount request ≡ Some wanted → given_back mount request number ≡ 0
-back_wants mount (Forget node count) wanted number wants_it = absurd (no_Some (sym (same_either (goes_on mount (Forget node count)) None) ∙ wants_it))
-back_wants mount (BatchForget pairs) wanted number wants_it = absurd (no_Some (sym (same_either (goes_on mount (BatchForget pairs)) None) ∙ wants_it))
-back_wants mount _ wanted number wants_it = same_either mount.negotiated 0
+pub back_wants : (config : Config) (mount : MountModel) (request : Request) (wanted : Wanted) (number : ℕ) → wants config mount request ≡ Some wanted
+    → given_back mount request number ≡ 0
+back_wants config mount (Forget node count) wanted number wants_it = absurd (no_Some (sym (same_either (goes_on mount (Forget node count)) None) ∙ wants_it))
+back_wants config mount (BatchForget pairs) wanted number wants_it = absurd (no_Some (sym (same_either (goes_on mount (BatchForget pairs)) None) ∙ wants_it))
+back_wants config mount _ wanted number wants_it = same_either mount.negotiated 0

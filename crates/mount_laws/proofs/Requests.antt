@@ -1,7 +1,9 @@
 -- One file for each request: that its rules are sound.
 pub mod BatchForget
 pub mod Create
+pub mod Flush
 pub mod Forget
+pub mod Fsync
 pub mod Fsyncdir
 pub mod Getattr
 pub mod Init
@@ -12,5 +14,7 @@ pub mod Read
 pub mod Readdir
 pub mod Release
 pub mod Releasedir
+pub mod Setattr
 pub mod Statfs
 pub mod Unserved
+pub mod Write

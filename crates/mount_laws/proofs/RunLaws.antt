@@ -53,7 +53,7 @@ module _ (config : Config) (number : ℕ) (other : number ≢ 1) where
           → lookups_of (mount_by config state call ending).table number ≡ (lookups_of state.mount.table number + given (reply_by config state call ending) number) - given_back state.mount call.request number
       by performed ends = counts (at_state config state) state.mount call.request call.seen number is other
       by short ends = stays enomem (back_asks (at_state config state) state.mount call.request number ends.asks)
-      by stale ends = stays estale (back_wants state.mount call.request ends.wanted number ends.wants_it)
+      by stale ends = stays estale (back_wants config state.mount call.request ends.wanted number ends.wants_it)
 
   along : (state : RunState) (calls : List Call) (count : ℕ) → IsMount state.mount → lookups_of state.mount.table number ≡ count → IsRun config state calls
       → lookups_of (state_after_calls config state calls).mount.table number ≡ count_along config state number count calls

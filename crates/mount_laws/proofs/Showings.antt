@@ -8,14 +8,15 @@ use Rattle.bucket_api.specs.Metadata.{Metadata}
 use Rattle.claim_spec.specs.Conflicts.{IsClaimed}
 use Rattle.claim_spec.specs.declared.claim.Claim.{Claim}
 use Rattle.claim_spec.specs.declared.claim.ClaimKey.TheVariants as key
-use Rattle.inode_spec.specs.Inodes.{is_live, looked_up, lookups_of}
-use Rattle.mount_rules.specs.Mount.{File, IsNameOf, Node, NodeTable}
+use Rattle.inode_spec.specs.Inodes.{is_live, looked_up, lookups_of, with_inode}
+use Rattle.mount_rules.specs.Mount.{File, IsKeptOf, IsNameOf, Node, NodeTable}
 use Rattle.mount_rules.specs.Showing.{Numbered, current_shown, directory_again, object_again, refreshed, shown_again, shown_or_new, stands_for, with_shown_or_new}
 use Rattle.mount_rules.specs.View.{sight_of}
 use Rattle.mount_laws.proofs.Counting.{count_of, counts_more}
 use Rattle.mount_laws.proofs.Keeping.{TableKeeps, TableKeeps-granted, TableKeeps-written, no_Some, same_Some}
-use Rattle.mount_laws.proofs.Mounts.{IsNodeTable, TableLater, TableLater-granted, TableLater-written}
-use Rattle.mount_laws.proofs.Sources.{IsNew, IsSameNode, IsSameNode-looked, NodesFrom, NodesFrom-granted, from_put}
+use Rattle.mount_laws.proofs.Sources.{IsSameNode, IsSameNode-looked, IsTold, NodesFrom, NodesFrom-stay, NodesFrom-told, NodesStay-put}
+use Rattle.mount_laws.proofs.Staying.{FilesStay, FilesStay-new, FilesStay-put}
+use Rattle.mount_laws.proofs.Tables.{IsKeptOf-same, IsNodeTable, TableLater, TableLater-granted, TableLater-written, next_unused}
 
 -- what showing a node again leaves of it: all but its look-ups, of which there is one more, and what is kept
 pub record ShownAgain (node shown : Node) : Type 0 where
@@ -122,22 +123,32 @@ module _ (again : Node → Option Node) (shows : (node shown : Node) → again n
       found_at number (Some node) current there e = under number node (again node) current there refl e
 
       at : (current : Option ℕ) → fin.get table.current name ≡ current
-          → option_and_then (λ number. option_and_then (λ (node : Node). option_and_then (λ (n : Node). Some (record { number = number; node = n })) (again node)) (fin.get table.nodes number)) current ≡ Some shown
+          → option_and_then (λ number. option_and_then (λ (node : Node). option_and_then (λ (n : Node). Some (record { number = number; node = n })) (again node))
+          (fin.get table.nodes number)) current ≡ Some shown
           → WasCurrent table name shown
       at None current e = absurd (no_Some e)
       at (Some number) current e = found_at number (fin.get table.nodes number) current refl e
 
   module _ (is : IsNodeTable table) (new : Node) (named : new.name ≡ name) where
     -- the table is one, and no number is given again
-    pub shown_later : IsNameOf new.kind new.name → 1 ≤ new.lookups → TableLater table (with_shown_or_new table (current_shown again table name) new)
-    shown_later of_kind given = by (current_shown again table name) refl
+    pub shown_later : IsNameOf new.kind new.name → IsKeptOf new.kind new.file → 1 ≤ new.lookups → TableLater table (with_shown_or_new table (current_shown again table name) new)
+    shown_later of_kind kept given = by (current_shown again table name) refl
       where
         by : (shown : Option Numbered) → current_shown again table name ≡ shown → TableLater table (with_shown_or_new table shown new)
-        by None e = TableLater-granted table is new of_kind given
+        by None e = TableLater-granted table is new of_kind kept given
         by (Some shown) e =
             let was = WasCurrent-shown shown e in
             TableLater-written table is shown.number was.node shown.node was.there was.again.kind was.again.name
+            (IsKeptOf-same was.node shown.node was.again.same (is.files shown.number was.node was.there))
             (λ live. ap (λ n. nat_eq shown.number 1 || nat_lt 0 n) was.again.lookups ∙ live_more shown.number was.node.lookups)
+
+    -- each file stays
+    pub shown_stay : FilesStay table.nodes (with_shown_or_new table (current_shown again table name) new).nodes
+    shown_stay = by (current_shown again table name) refl
+      where
+        by : (shown : Option Numbered) → current_shown again table name ≡ shown → FilesStay table.nodes (with_shown_or_new table shown new).nodes
+        by None e = FilesStay-new table.nodes table.next new (next_unused table is)
+        by (Some shown) e = let was = WasCurrent-shown shown e in FilesStay-put table.nodes shown.number was.node shown.node was.there was.again.same.shown
 
     -- others see the same, but for the name
     pub shown_keeps : (claimed : List Claim) → IsClaimed claimed (key.Name name) → TableKeeps claimed table (with_shown_or_new table (current_shown again table name) new)
@@ -159,12 +170,8 @@ module _ (again : Node → Option Node) (shows : (node shown : Node) → again n
         ≡ (lookups_of table number + (if nat_eq number (shown_or_new table (current_shown again table name) new).number then 1 else 0)) - 0
     shown_counts one number = by (current_shown again table name) refl
       where
-        unused : (found : Option Node) → fin.get table.nodes table.next ≡ found → count_of found ≡ 0
-        unused None e = refl
-        unused (Some node) e = let low = is.nodes table.next node e in absurd (omega (arith, low))
-
         none : lookups_of table table.next ≡ 0
-        none = unused (fin.get table.nodes table.next) refl
+        none = ap count_of (next_unused table is)
 
         by : (shown : Option Numbered) → current_shown again table name ≡ shown
             → lookups_of (with_shown_or_new table shown new) number ≡ (lookups_of table number + (if nat_eq number (shown_or_new table shown new).number then 1 else 0)) - 0
@@ -174,9 +181,11 @@ module _ (again : Node → Option Node) (shows : (node shown : Node) → again n
             counts_more table number shown.number shown.node (was.again.lookups ∙ ap (λ n. n + 1) (sym (ap count_of was.there)))
 
   -- each node was there, or is the new one
-  pub shown_nodes : (Shown : List ℕ → ℕ → ℕ → Type 0) (new : Node) → IsNew Shown new → NodesFrom Shown table (with_shown_or_new table (current_shown again table name) new)
+  pub shown_nodes : (Shown : List ℕ → ℕ → ℕ → Type 0) (new : Node) → IsTold Shown new → NodesFrom Shown table (with_shown_or_new table (current_shown again table name) new)
   shown_nodes Shown new is = by (current_shown again table name) refl
     where
       by : (shown : Option Numbered) → current_shown again table name ≡ shown → NodesFrom Shown table (with_shown_or_new table shown new)
-      by None e = NodesFrom-granted Shown table new is
-      by (Some shown) e = let was = WasCurrent-shown shown e in from_put Shown table shown.number was.node shown.node was.there was.again.same
+      by None e = NodesFrom-told Shown table table.next new is
+      by (Some shown) e =
+          let was = WasCurrent-shown shown e in
+          NodesFrom-stay Shown table (with_inode table shown.number shown.node) (NodesStay-put table shown.number was.node shown.node was.there was.again.same)

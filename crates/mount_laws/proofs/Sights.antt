@@ -8,19 +8,20 @@ use Rattle.claim_spec.specs.declared.claim.ClaimKey.TheVariants as key
 use Rattle.handle_table.specs.Handles.{Opened}
 use Rattle.mount_rules.specs.Laws.{Keeps}
 use Rattle.mount_rules.specs.Mount.{MountModel}
-use Rattle.mount_rules.specs.Rules.{at_handle, at_node}
+use Rattle.mount_rules.specs.Rules.{at_file, at_node, at_open_file}
 use Rattle.mount_rules.specs.View.{Looks, Sight, kept_at, old_at, sight_at, view_of}
 use Rattle.mount_laws.proofs.Keeping.{no_Some, same_Some}
 
 -- What a request looks at is there, and it claims what it looks at: the node and the second directory; the node of its
--- handle; what is kept of a node only where it owns the node and its name; a name's current node with the name owned and
--- that node claimed.
+-- handle; what is kept of a node only where it owns the node and its name; and the node of what is staged. It looks at no
+-- name's current node.
 pub record LooksClaimed (mine : List Claim) (mount : MountModel) (looks : Looks) : Type 0 where
   pub node : (number : ℕ) → looks.node ≡ Some number → (sight : Sight) × (sight_at mount.table number ≡ Some sight) × IsClaimed mine (key.Node number)
   pub directory : (number : ℕ) → looks.directory ≡ Some number → (sight : Sight) × (sight_at mount.table number ≡ Some sight) × IsClaimed mine (key.Node number)
   pub handle : (fh : ℕ) → looks.handle ≡ Some fh → (handle : Opened) × (fin.get mount.handles fh ≡ Some handle) × IsClaimed mine (key.Node handle.node)
   pub kept : (number : ℕ) → looks.kept ≡ Some number
       → (sight : Sight) × (sight_at mount.table number ≡ Some sight) × IsOwned mine (key.Node number) × IsOwned mine (key.Name sight.name)
+  pub staged : (number : ℕ) → looks.staged ≡ Some number → IsClaimed mine (key.Node number)
   pub old : looks.old ≡ None
   pub listed : looks.listed ≡ []
 
@@ -46,12 +47,18 @@ module _ (mine others : List Claim) (mount after : MountModel) (apart : AreApart
       let c = claims number refl in
       keeps.kept number c.0 c.1 (λ claimed. apart.mine_alone (key.Node number) c.2 claimed) (λ claimed. apart.mine_alone (key.Name c.0.name) c.3 claimed)
 
+  staged_stays : (looked : Option ℕ) → ((number : ℕ) → looked ≡ Some number → IsClaimed mine (key.Node number))
+      → option_and_then (fin.get after.staged) looked ≡ option_and_then (fin.get mount.staged) looked
+  staged_stays None claims = refl
+  staged_stays (Some number) claims = keeps.staged number (free number (claims number refl))
+
   pub view_stays : (looks : Looks) → LooksClaimed mine mount looks → view_of after looks ≡ view_of mount looks
   view_stays looks claims = λ i. record {
     node = sight_stays looks.node claims.node i;
     directory = sight_stays looks.directory claims.directory i;
     handle = handle_stays looks.handle claims.handle i;
     kept = kept_stays looks.kept claims.kept i;
+    staged = staged_stays looks.staged claims.staged i;
     old = old_same i;
     listed = listed_same i;
   }
@@ -64,7 +71,7 @@ module _ (mine others : List Claim) (mount after : MountModel) (apart : AreApart
       listed_same : map (sight_at after.table) looks.listed ≡ map (sight_at mount.table) looks.listed
       listed_same = subst (λ looked. map (sight_at after.table) looked ≡ map (sight_at mount.table) looked) (sym claims.listed) refl
 
--- a request that looks at one node alone, which it claims
+-- a request that looks at one node, which it claims
 pub LooksClaimed-node : (mine : List Claim) (mount : MountModel) (number : ℕ) (sight : Sight) → sight_at mount.table number ≡ Some sight → IsClaimed mine (key.Node number)
     → LooksClaimed mine mount (at_node number)
 LooksClaimed-node mine mount number sight seen claimed = record {
@@ -72,19 +79,38 @@ LooksClaimed-node mine mount number sight seen claimed = record {
   directory = λ n is. absurd (no_Some is);
   handle = λ fh is. absurd (no_Some is);
   kept = λ n is. absurd (no_Some is);
+  staged = λ n is. absurd (no_Some is);
   old = refl;
   listed = refl;
 }
 
--- a request that looks at a handle, and at the node that it is on, which it claims
-pub LooksClaimed-handle : (mine : List Claim) (mount : MountModel) (number fh : ℕ) (sight : Sight) → sight_at mount.table number ≡ Some sight
+-- and at what is staged of it
+pub LooksClaimed-file : (mine : List Claim) (mount : MountModel) (number : ℕ) (sight : Sight) → sight_at mount.table number ≡ Some sight → IsClaimed mine (key.Node number)
+    → LooksClaimed mine mount (at_file number)
+LooksClaimed-file mine mount number sight seen claimed =
+    let looks = LooksClaimed-node mine mount number sight seen claimed in
+    record {
+      node = looks.node;
+      directory = looks.directory;
+      handle = looks.handle;
+      kept = looks.kept;
+      staged = λ n is. subst (λ k. IsClaimed mine (key.Node k)) (same_Some is) claimed;
+      old = refl;
+      listed = refl;
+    }
+
+-- and at a handle that is open on it
+pub LooksClaimed-open_file : (mine : List Claim) (mount : MountModel) (number fh : ℕ) (sight : Sight) → sight_at mount.table number ≡ Some sight
     → (handle : Opened) → fin.get mount.handles fh ≡ Some handle → handle.node ≡ number → IsClaimed mine (key.Node number)
-    → LooksClaimed mine mount (at_handle number fh)
-LooksClaimed-handle mine mount number fh sight seen handle there on_it claimed = record {
-  node = λ n is. let same : number ≡ n = same_Some is in (sight, ap (sight_at mount.table) (sym same) ∙ seen, subst (λ k. IsClaimed mine (key.Node k)) same claimed);
-  directory = λ n is. absurd (no_Some is);
-  handle = λ f is. let same : fh ≡ f = same_Some is in (handle, ap (fin.get mount.handles) (sym same) ∙ there, subst (λ k. IsClaimed mine (key.Node k)) (sym on_it) claimed);
-  kept = λ n is. absurd (no_Some is);
-  old = refl;
-  listed = refl;
-}
+    → LooksClaimed mine mount (at_open_file number fh)
+LooksClaimed-open_file mine mount number fh sight seen handle there on_it claimed =
+    let looks = LooksClaimed-file mine mount number sight seen claimed in
+    record {
+      node = looks.node;
+      directory = looks.directory;
+      handle = λ f is. let same : fh ≡ f = same_Some is in (handle, ap (fin.get mount.handles) (sym same) ∙ there, subst (λ k. IsClaimed mine (key.Node k)) (sym on_it) claimed);
+      kept = looks.kept;
+      staged = looks.staged;
+      old = refl;
+      listed = refl;
+    }

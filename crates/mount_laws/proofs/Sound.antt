@@ -7,14 +7,14 @@ use Rattle.bucket_api.specs.Operation.{Operation}
 use Rattle.fuse_replies.specs.declared.reply.Reply.TheVariants.{Error}
 use Rattle.inode_spec.specs.Inodes.{lookups_of}
 use Rattle.fuse_replies.specs.Errno.{enomem}
-use Rattle.mount_rules.specs.Laws.{GivesLater, IsCovered, IsOfFile, Keeps, Planned, given}
+use Rattle.mount_rules.specs.Laws.{GivesLater, IsAnswerTo, IsCovered, IsOfFile, Keeps, Planned, given}
 use Rattle.mount_rules.specs.Mount.{IsMount, MountModel}
 use Rattle.mount_model.specs.Observing.{Observed}
 use Rattle.mount_rules.specs.Plans.{Allows, IsHarmless, Source, Step, Wanted, answers_of, done, may_read}
 use Rattle.mount_rules.specs.Rules.{AtTake, Rules, Taken}
 use Rattle.mount_rules.specs.View.{View, view_of}
 use Rattle.mount_laws.proofs.Sights.{LooksClaimed}
-use Rattle.mount_laws.proofs.Sources.{HandlesFrom, NodesFrom}
+use Rattle.mount_laws.proofs.Sources.{NodesFrom}
 use Rattle.mount_laws.proofs.Telling.{TellsAlong}
 
 -- what the request has from a take at this mount
@@ -36,18 +36,18 @@ pub record IsSound (rules : Rules) (back : ℕ → ℕ) (most : Option ℕ) : Ty
   pub sees : (at : AtTake) (mount : MountModel) → GoesOn rules mount → rules.plan (taken_by rules at mount) [] ≢ done
       → LooksClaimed (rules.claims (view_of mount rules.looks)) mount rules.looks
   pub covers : (taken : Taken) (answers : List Answer) (op : Operation) → Allows (rules.plan taken answers) op → IsCovered (rules.claims taken.view) op
-  pub harmless : (taken : Taken) (seen : List Observed) → Planned (rules.plan taken) seen → rules.plan taken (answers_of seen) ≢ done
-      → AllByRecursion (λ (o : Observed). IsHarmless o.op) seen
+  pub harmless : (taken : Taken) (seen : List Observed) → Planned (rules.plan taken) seen → AllByRecursion (λ (o : Observed). IsAnswerTo o.op o.answer) seen
+      → rules.plan taken (answers_of seen) ≢ done → AllByRecursion (λ (o : Observed). IsHarmless o.op) seen
   pub bounded : (taken : Taken) (seen : List Observed) (n : ℕ) → most ≡ Some n → Planned (rules.plan taken) seen → length seen ≤ n
   pub reads : (taken : Taken) (wanted : Wanted) → rules.wants taken.view ≡ Some wanted → (source : Source) × (next : Step) × (rules.plan taken [] ≡ may_read source next)
-  pub of_files : (mount : MountModel) (wanted : Wanted) → rules.wants (view_of mount rules.looks) ≡ Some wanted → IsOfFile mount wanted
+  pub of_files : (mount : MountModel) (wanted : Wanted) → IsMount mount → rules.wants (view_of mount rules.looks) ≡ Some wanted → IsOfFile mount wanted
   pub agrees : (taken : Taken) (mount : MountModel) (seen : List Observed) → mount.negotiated ≡ true → (rules.after taken mount seen).negotiated ≡ true
   pub refuses : (view : View) → rules.refusal view ≢ Some enomem
+  pub keeps_staged : (at : AtTake) (mount : MountModel) (seen : List Observed) (errno : ℕ) → rules.refusal (view_of mount rules.looks) ≡ None
+      → rules.reply (taken_by rules at mount) mount seen ≡ Error errno → (rules.after (taken_by rules at mount) mount seen).staged ≡ mount.staged
   pub answers : (taken : Taken) (mount : MountModel) (seen : List Observed) → rules.reply taken mount seen ≢ Error enomem
   pub counts : (at : AtTake) (mount : MountModel) (seen : List Observed) (number : ℕ) → number ≢ 1 → GoesOn rules mount
       → lookups_of (rules.after (taken_by rules at mount) mount seen).table number
       ≡ (lookups_of mount.table number + given (rules.reply (taken_by rules at mount) mount seen) number) - back number
   pub nodes : (Shown : List ℕ → ℕ → ℕ → Type 0) (at : AtTake) (mount : MountModel) (seen : List Observed) → GoesOn rules mount
       → TellsAlong Shown (rules.plan (taken_by rules at mount)) seen → NodesFrom Shown mount.table (rules.after (taken_by rules at mount) mount seen).table
-  pub handles : (at : AtTake) (mount : MountModel) (seen : List Observed) → GoesOn rules mount
-      → HandlesFrom mount (rules.after (taken_by rules at mount) mount seen)

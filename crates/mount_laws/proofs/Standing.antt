@@ -1,6 +1,6 @@
 -- What GETATTR and OPEN share: the bucket is asked how the generation stands that a node shows, and the node keeps what it
 -- is told.
-use Rattle.std.proofs.Common.{◌≡◌, ◌≢◌, ◌≤◌, ℕ, Bool, true, false, List, [], ◌∷◌, Option, Some, None, refl, sym, ap, subst, ◌∙◌, inl, inr, length, arith, option_map}
+use Rattle.std.proofs.Common.{◌≡◌, ◌≤◌, ℕ, Bool, true, false, List, [], ◌∷◌, Option, Some, None, refl, sym, ap, subst, ◌∙◌, inl, inr, length, arith, option_map}
 use Rattle.std.specs.Prelude.{if◌then◌else◌, option_and_then}
 use Rattle.std.specs.FinMap as fin
 use Rattle.std.specs.Option.{option_map_or}
@@ -13,39 +13,44 @@ use Rattle.claim_spec.specs.declared.claim.ClaimKey.TheVariants as key
 use Rattle.inode_spec.proofs.Cases.{where_kept}
 use Rattle.inode_spec.specs.Inodes.{lookups_of, with_inode}
 use Rattle.mount_model.specs.Observing.{Observed}
-use Rattle.mount_rules.specs.Claiming.{shares_name, shares_node}
 use Rattle.mount_rules.specs.Guards.{is_directory}
 use Rattle.mount_rules.specs.Laws.{IsCovered, Planned}
 use Rattle.mount_rules.specs.Mount.{File, MountModel, Node, NodeTable}
 use Rattle.mount_rules.specs.Plans.{Allows, IsHarmless}
-use Rattle.mount_rules.specs.Rules.{at_node}
+use Rattle.mount_rules.specs.Rules.{at_file}
 use Rattle.mount_rules.specs.Showing.{refreshed}
 use Rattle.mount_rules.specs.Standing as standing
 use Rattle.mount_rules.specs.Standing.{Standing, fault, gone, live, name_of, table_after, unasked}
-use Rattle.mount_rules.specs.View.{Sight, View, sight_of, view_of}
+use Rattle.mount_rules.specs.View.{Sight, View, sight_at, sight_of, view_of}
 use Rattle.mount_laws.proofs.Counting.{count_of, counts_put}
-use Rattle.mount_laws.proofs.Keeping.{TableKeeps, TableKeeps-same, TableKeeps-written, same_Some}
-use Rattle.mount_laws.proofs.Mounts.{IsNodeTable, TableLater, TableLater-same, TableLater-written}
+use Rattle.mount_laws.proofs.Keeping.{TableKeeps, TableKeeps-same, TableKeeps-written}
 use Rattle.mount_laws.proofs.Showings.{IsSameNode-refreshed, refreshed-seen}
-use Rattle.mount_laws.proofs.Sources.{IsFileAt, NodesFrom, NodesFrom-same, from_put}
-use Rattle.object_names.specs.declared.shown.NodeKind.TheVariants.{Dir}
-use Rattle.spare_maps.proofs.FinMaps.{number_put_same}
+use Rattle.mount_laws.proofs.Sources.{NodesFrom, NodesFrom-stay, NodesStay, NodesStay-put, NodesStay-same}
+use Rattle.mount_laws.proofs.Staying.{FilesStay, FilesStay-put, FilesStay-same}
+use Rattle.mount_laws.proofs.Tables.{IsKeptOf-same, IsNodeTable, TableLater, TableLater-same, TableLater-written}
+use Rattle.staging_spec.specs.StagedFiles.{StagedContent}
 
 -- ---- what is asked
 -- the one operation is the stat of the node's name, which is claimed
-pub asks_name : (node : ℕ) (view : View) (told : List Answer) (op : Operation) → Allows (standing.plan (standing.asked_name view) told) op → IsCovered (standing.claims node view) op
-asks_name node view told op = by view.node told
+pub asks_name : (claimed : List Claim) (view : View) → ((sight : Sight) → view.node ≡ Some sight → IsClaimed claimed (key.Name sight.name))
+    → (told : List Answer) (op : Operation) → Allows (standing.plan (standing.asked_name view) told) op → IsCovered claimed op
+asks_name claimed view named told op = by view.node refl view.staged told
   where
-    kinds : (sight : Sight) (directory : Bool) (told : List Answer) → Allows (standing.plan (if directory then None else Some sight.name) told) op
-        → IsCovered (shares_node node ∷ shares_name sight.name ∷ []) op
-    kinds sight true told allows = absurd allows
-    kinds sight false [] allows = subst (IsCovered (shares_node node ∷ shares_name sight.name ∷ [])) (sym allows) (inr (inl refl))
-    kinds sight false (a ∷ more) allows = absurd allows
+    kinds : (sight : Sight) → IsClaimed claimed (key.Name sight.name) → (directory : Bool) (told : List Answer)
+        → Allows (standing.plan (if directory then None else Some sight.name) told) op → IsCovered claimed op
+    kinds sight name true told allows = absurd allows
+    kinds sight name false [] allows = subst (IsCovered claimed) (sym allows) name
+    kinds sight name false (a ∷ more) allows = absurd allows
 
-    by : (seen : Option Sight) (told : List Answer) → Allows (standing.plan (option_and_then name_of seen) told) op
-        → IsCovered (shares_node node ∷ shares_name (option_map_or (λ (sight : Sight). sight.name) seen []) ∷ []) op
-    by None told allows = absurd allows
-    by (Some sight) told allows = kinds sight (is_directory sight.kind) told allows
+    by : (seen : Option Sight) → view.node ≡ seen → (staged : Option StagedContent) (told : List Answer)
+        → Allows (standing.plan (option_and_then (name_of staged) seen) told) op → IsCovered claimed op
+    by None is staged told allows = absurd allows
+    by (Some sight) is (Some s) told allows = absurd allows
+    by (Some sight) is None told allows = kinds sight (named sight is) (is_directory sight.kind) told allows
+
+-- the name of a node that is seen, as requests claim it
+abbrev pub name_seen : Option Sight → List ℕ
+name_seen seen = option_map_or (λ (sight : Sight). sight.name) seen []
 
 pub asks_stat : (name : Option (List ℕ)) (told : List Answer) (op : Operation) → Allows (standing.plan name told) op → IsHarmless op
 asks_stat None told op allows = absurd allows
@@ -60,10 +65,15 @@ asks_one (Some name) (o ∷ []) planned = omega arith
 asks_one (Some name) (o ∷ p ∷ more) planned = absurd planned.1.0
 
 -- the name of the node that is there is claimed
+pub claims_seen : (node : ℕ) (view : View) (sight : Sight) → view.node ≡ Some sight → IsClaimed (standing.claims node view) (key.Name sight.name)
+claims_seen node view sight is = inr (inl (ap (λ seen. key.Name (name_seen seen)) is))
+
+pub name_there : (mount : MountModel) (number : ℕ) (node : Node) → fin.get mount.table.nodes number ≡ Some node → name_seen (sight_at mount.table number) ≡ node.name
+name_there mount number node there = ap (λ (found : Option Node). name_seen (option_map (sight_of number) found)) there
+
 pub claims_name : (mount : MountModel) (number : ℕ) (node : Node) → fin.get mount.table.nodes number ≡ Some node
-    → IsClaimed (standing.claims number (view_of mount (at_node number))) (key.Name node.name)
-claims_name mount number node there =
-    inr (inl (ap (λ (found : Option Node). key.Name (option_map_or (λ (sight : Sight). sight.name) (option_map (sight_of number) found) [])) there))
+    → IsClaimed (standing.claims number (view_of mount (at_file number))) (key.Name node.name)
+claims_name mount number node there = inr (inl (ap key.Name (name_there mount number node there)))
 
 -- ---- what is kept
 module _ (table : NodeTable) (number moment : ℕ) where
@@ -91,7 +101,14 @@ module _ (table : NodeTable) (number moment : ℕ) where
   -- the table is one, and no number is given again
   pub standing_later : IsNodeTable table → (found : Standing) → TableLater table (table_after table number moment found)
   standing_later is = on_refreshed (TableLater table) (TableLater-same table is)
-      (λ meta node file there has. TableLater-written table is number node (record node { file = Some (refreshed meta moment file) }) there refl refl (λ was. was))
+      (λ meta node file there has. TableLater-written table is number node (record node { file = Some (refreshed meta moment file) }) there refl refl
+      (IsKeptOf-same node (record node { file = Some (refreshed meta moment file) }) (IsSameNode-refreshed meta moment node file has) (is.files number node there)) (λ was. was))
+
+  -- each file stays
+  pub standing_stay : (found : Standing) → FilesStay table.nodes (table_after table number moment found).nodes
+  standing_stay = on_refreshed (λ (after : NodeTable). FilesStay table.nodes after.nodes) (FilesStay-same table.nodes)
+      (λ meta node file there has. FilesStay-put table.nodes number node (record node { file = Some (refreshed meta moment file) }) there
+      (IsSameNode-refreshed meta moment node file has).shown)
 
   -- others see the same, but for the name
   pub standing_keeps : (claimed : List Claim) → ((node : Node) → fin.get table.nodes number ≡ Some node → IsClaimed claimed (key.Name node.name))
@@ -107,15 +124,9 @@ module _ (table : NodeTable) (number moment : ℕ) where
       ∙ where_kept k number node.lookups (lookups_of table k) (λ same. sym (ap (lookups_of table) same ∙ ap count_of there)))
 
   -- each node was there
-  pub standing_nodes : (Shown : List ℕ → ℕ → ℕ → Type 0) (found : Standing) → NodesFrom Shown table (table_after table number moment found)
-  standing_nodes Shown = on_refreshed (NodesFrom Shown table) (NodesFrom-same Shown table)
-      (λ meta node file there has. from_put Shown table number node (record node { file = Some (refreshed meta moment file) }) there (IsSameNode-refreshed meta moment node file has))
+  pub standing_nodes_stay : (found : Standing) → NodesStay table (table_after table number moment found)
+  standing_nodes_stay = on_refreshed (NodesStay table) (NodesStay-same table)
+      (λ meta node file there has. NodesStay-put table number node (record node { file = Some (refreshed meta moment file) }) there (IsSameNode-refreshed meta moment node file has))
 
-  -- and the node that was no directory is there, and is none
-  pub standing_there : IsFileAt table number → (found : Standing) → IsFileAt (table_after table number moment found) number
-  standing_there was = on_refreshed (λ (after : NodeTable). IsFileAt after number) was
-      (λ meta node file there has. record {
-        node = record node { file = Some (refreshed meta moment file) };
-        there = number_put_same table.nodes number (record node { file = Some (refreshed meta moment file) });
-        kind = subst (λ (x : Node). x.kind ≢ Dir) (same_Some (sym was.there ∙ there)) was.kind;
-      })
+  pub standing_nodes : (Shown : List ℕ → ℕ → ℕ → Type 0) (found : Standing) → NodesFrom Shown table (table_after table number moment found)
+  standing_nodes Shown found = NodesFrom-stay Shown table (table_after table number moment found) (standing_nodes_stay found)

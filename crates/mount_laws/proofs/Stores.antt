@@ -25,7 +25,7 @@ use Rattle.bucket_api.specs.declared.objects.Object.{Object}
 use Rattle.bucket_api.specs.declared.objects.Pair.{Pair}
 use Rattle.mount_model.specs.Observing.{Observed}
 use Rattle.mount_rules.specs.OneThread.{Observes, Store, after_operation, after_operations, bucket_of}
-use Rattle.mount_rules.specs.Plans.{Plan, plan_after}
+use Rattle.mount_rules.specs.Plans.{Plan, asked_by, plan_after}
 use Rattle.mount_laws.proofs.Telling.{Tells, TellsAlong}
 
 -- the generation of the name was live at some time, with content of this size
@@ -54,6 +54,11 @@ Grown-then first second third one two = record {
   more = one.more ++ two.more;
   log = two.log ∙ ap (λ log. log ++ two.more) one.log ∙ append_assoc first.log one.more two.more;
 }
+
+-- nothing is observed where nothing is asked
+pub observes_none : (plan : Plan) → asked_by (plan []) ≡ None → (store : Store) (seen : List Observed) → Observes plan store seen → seen ≡ []
+observes_none plan none store [] observed = refl
+observes_none plan none store (o ∷ more) observed = absurd (let never : None ≡ Some o.op = sym none ∙ observed.0.asked in cc)
 
 -- ---- what is found in a bucket
 same_generation : (generation : ℕ) → (generation == generation) ≡ true

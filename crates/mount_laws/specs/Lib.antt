@@ -1,3 +1,4 @@
 -- Laws that are stated here, beside those of the rules.
+pub mod Flushes
 pub mod Listings
 pub mod Parents

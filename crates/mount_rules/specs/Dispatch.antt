@@ -8,15 +8,18 @@ use Rattle.fuse_replies.specs.declared.reply.Reply.{Reply}
 use Rattle.fuse_replies.specs.declared.reply.Reply.TheVariants.{Error, Silent}
 use Rattle.fuse_requests.specs.Opcodes as opcodes
 use Rattle.fuse_requests.specs.declared.request.Request.{Request}
-use Rattle.fuse_requests.specs.declared.request.Request.TheVariants.{Lookup, Forget, BatchForget, Interrupt, Getattr, Init, Opening, Read, Release, Statfs, Opendir, Readdir, Releasedir, Fsyncdir, Create, Destroy, Unknown}
-use Rattle.fuse_replies.specs.Errno.{einval, enosys, eproto}
+use Rattle.fuse_requests.specs.declared.request.Request.TheVariants.{Lookup, Forget, BatchForget, Interrupt, Getattr, Setattr, Init, Opening, Read, Write, Flush, Fsync, Release, Statfs, Opendir, Readdir, Releasedir, Fsyncdir, Create, Destroy, Unknown}
+use Rattle.fuse_replies.specs.Errno.{einval, enosys, enospc, eproto}
+use Rattle.mount_model.specs.declared.config.Config.{Config}
 use Rattle.mount_rules.specs.Mount.{MountModel}
 use Rattle.mount_model.specs.Observing.{Observed}
 use Rattle.mount_rules.specs.Plans.{Plan, Wanted, done}
 use Rattle.mount_rules.specs.Requests.BatchForget as batch_forget
 use Rattle.mount_rules.specs.Requests.Create as create
 use Rattle.mount_rules.specs.Requests.Destroy as destroy
+use Rattle.mount_rules.specs.Requests.Flush as flush
 use Rattle.mount_rules.specs.Requests.Forget as forget
+use Rattle.mount_rules.specs.Requests.Fsync as fsync
 use Rattle.mount_rules.specs.Requests.Fsyncdir as fsyncdir
 use Rattle.mount_rules.specs.Requests.Getattr as getattr
 use Rattle.mount_rules.specs.Requests.Init as init
@@ -27,8 +30,10 @@ use Rattle.mount_rules.specs.Requests.Read as read
 use Rattle.mount_rules.specs.Requests.Readdir as readdir
 use Rattle.mount_rules.specs.Requests.Release as release
 use Rattle.mount_rules.specs.Requests.Releasedir as releasedir
+use Rattle.mount_rules.specs.Requests.Setattr as setattr
 use Rattle.mount_rules.specs.Requests.Statfs as statfs
 use Rattle.mount_rules.specs.Requests.Unserved as unserved
+use Rattle.mount_rules.specs.Requests.Write as write
 use Rattle.mount_rules.specs.Rules.{AtTake, Rules, Taken}
 use Rattle.mount_rules.specs.View.{View, view_of}
 
@@ -39,8 +44,8 @@ silent_opcodes = opcodes.forget ∷ opcodes.interrupt ∷ opcodes.batch_forget �
 -- the requests that are served and get a reply
 abbrev pub served_opcodes : List ℕ
 served_opcodes =
-    opcodes.lookup ∷ opcodes.getattr ∷ opcodes.opening ∷ opcodes.reading ∷ opcodes.statfs ∷ opcodes.release ∷ opcodes.init
-    ∷ opcodes.opendir ∷ opcodes.readdir ∷ opcodes.releasedir ∷ opcodes.fsyncdir ∷ opcodes.create ∷ opcodes.destroy ∷ []
+    opcodes.lookup ∷ opcodes.getattr ∷ opcodes.setattr ∷ opcodes.opening ∷ opcodes.reading ∷ opcodes.writing ∷ opcodes.statfs
+    ∷ opcodes.release ∷ opcodes.fsync ∷ opcodes.flush ∷ opcodes.init ∷ opcodes.opendir ∷ opcodes.readdir ∷ opcodes.releasedir ∷ opcodes.fsyncdir ∷ opcodes.create ∷ opcodes.destroy ∷ []
 
 abbrev pub is_among : List ℕ → ℕ → Bool
 is_among opcodes opcode = list_any (λ o. o == opcode) opcodes
@@ -58,8 +63,12 @@ rules_of (Lookup node name) = lookup.rules node name
 rules_of (Forget node count) = forget.rules node count
 rules_of (BatchForget pairs) = batch_forget.rules pairs.items
 rules_of (Getattr node) = getattr.rules node
+rules_of (Setattr node valid size mtime nanos) = setattr.rules node (record { valid = valid; size = size; seconds = mtime; nanos = nanos })
 rules_of (Opening node flags) = open_file.rules node
 rules_of (Read node fh first size) = read.rules node fh first size
+rules_of (Write node fh first content) = write.rules node fh first content
+rules_of (Flush node fh) = flush.rules node fh
+rules_of (Fsync node fh) = fsync.rules node fh
 rules_of (Release node fh) = release.rules node fh
 rules_of Statfs = statfs.rules
 rules_of (Init major minor readahead flags) = init.rules major minor readahead flags
@@ -114,9 +123,19 @@ abbrev pub plan : AtTake → MountModel → Request → Plan
 plan at mount request =
     if goes_on mount request then (rules_of request).plan (taken_at at mount request) else (λ answers. done)
 
--- the bytes of a source that it wants
-abbrev pub wants : MountModel → Request → Option Wanted
-wants mount request = if goes_on mount request then (rules_of request).wants (view_in mount request) else None
+-- Whether a WRITE is refused for want of blocks. That is decided anew at its end, so it is no part of its plan.
+abbrev pub is_full : Config → MountModel → Request → Bool
+is_full config mount (Write node fh first content) = write.is_full config mount.staged first content (view_in mount (Write node fh first content))
+is_full config mount request = false
+
+-- the error with which a request is refused at its take: a WRITE also where it is refused for want of blocks
+abbrev pub refused_at_take : Config → MountModel → Request → Option ℕ
+refused_at_take config mount request = option_map_or Some (early mount request) (if is_full config mount request then Some enospc else None)
+
+-- the bytes of a source that it wants; none, where it is refused at its take
+abbrev pub wants : Config → MountModel → Request → Option Wanted
+wants config mount request =
+    if goes_on mount request then (if is_full config mount request then None else (rules_of request).wants (view_in mount request)) else None
 
 -- what it claims from its take to its end; nothing, where it is refused or has no effect
 abbrev pub claims : MountModel → Request → List Claim

@@ -2,6 +2,7 @@
 pub mod Attributes
 pub mod Claiming
 pub mod Dispatch
+pub mod Files
 pub mod Guards
 pub mod Laws
 pub mod Making

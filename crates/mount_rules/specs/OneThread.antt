@@ -98,16 +98,16 @@ pub record StopsShort (config : Config) (state : RunState) (request : Request) (
   pub harmless : AllByRecursion (λ (o : Observed). IsHarmless o.op) seen
 
 -- A stale call wants a byte of a source that is live no more.
-pub record IsStale (state : RunState) (request : Request) (seen : List Observed) : Type 0 where
+pub record IsStale (config : Config) (state : RunState) (request : Request) (seen : List Observed) : Type 0 where
   pub wanted : Wanted
-  pub wants_it : wants state.mount request ≡ Some wanted
+  pub wants_it : wants config state.mount request ≡ Some wanted
   pub gone : object_of (bucket_of state.store) wanted.name wanted.generation ≡ None
   pub silent : seen ≡ []
 
 abbrev pub Ends : Config → RunState → Request → List Observed → Ending → Type 0
 Ends config state request seen performed = Completes (plan_at config state request) seen
 Ends config state request seen short = StopsShort config state request seen
-Ends config state request seen stale = IsStale state request seen
+Ends config state request seen stale = IsStale config state request seen
 
 -- The call could be made so at this state.
 pub record IsLawful (config : Config) (state : RunState) (call : Call) : Type 0 where

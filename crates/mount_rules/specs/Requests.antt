@@ -2,7 +2,9 @@
 pub mod BatchForget
 pub mod Create
 pub mod Destroy
+pub mod Flush
 pub mod Forget
+pub mod Fsync
 pub mod Fsyncdir
 pub mod Getattr
 pub mod Init
@@ -13,5 +15,7 @@ pub mod Read
 pub mod Readdir
 pub mod Release
 pub mod Releasedir
+pub mod Setattr
 pub mod Statfs
 pub mod Unserved
+pub mod Write

@@ -39,11 +39,15 @@ pub record Rules : Type 0 where
 
 -- nowhere
 abbrev pub nowhere : Looks
-nowhere = record { node = None; directory = None; handle = None; kept = None; old = None; listed = [] }
+nowhere = record { node = None; directory = None; handle = None; kept = None; staged = None; old = None; listed = [] }
 
 -- at the head's node
 abbrev pub at_node : ℕ → Looks
 at_node node = record nowhere { node = Some node }
+
+-- at the head's node, and at what is staged of it
+abbrev pub at_file : ℕ → Looks
+at_file node = record nowhere { node = Some node; staged = Some node }
 
 -- at each node of a list
 abbrev pub at_nodes : List ℕ → Looks
@@ -52,3 +56,7 @@ at_nodes numbers = record nowhere { listed = numbers }
 -- at a handle, and at the head's node
 abbrev pub at_handle : ℕ → ℕ → Looks
 at_handle node fh = record nowhere { node = Some node; handle = Some fh }
+
+-- at a handle of a file, and at the head's node with what is staged of it
+abbrev pub at_open_file : ℕ → ℕ → Looks
+at_open_file node fh = record (at_handle node fh) { staged = Some node }

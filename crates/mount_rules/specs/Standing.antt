@@ -13,13 +13,15 @@ use Rattle.mount_rules.specs.Mount.{File, NodeTable}
 use Rattle.mount_rules.specs.Plans.{Step, ask, done}
 use Rattle.mount_rules.specs.Showing.{refreshed}
 use Rattle.mount_rules.specs.View.{Sight, View}
+use Rattle.staging_spec.specs.StagedFiles.{StagedContent}
 
--- the name that is asked for; a directory shows no generation
-abbrev pub name_of : Sight → Option (List ℕ)
-name_of sight = if is_directory sight.kind then None else Some sight.name
+-- the name that is asked for; a directory shows no generation, and a file with staged content shows that
+abbrev pub name_of : Option StagedContent → Sight → Option (List ℕ)
+name_of None sight = if is_directory sight.kind then None else Some sight.name
+name_of (Some staged) sight = None
 
 abbrev pub asked_name : View → Option (List ℕ)
-asked_name view = option_and_then name_of view.node
+asked_name view = option_and_then (name_of view.staged) view.node
 
 -- a name is asked for once
 abbrev pub plan : Option (List ℕ) → List Answer → Step

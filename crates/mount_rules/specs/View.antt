@@ -8,6 +8,7 @@ use Rattle.handle_table.specs.Handles.{Opened}
 use Rattle.inode_spec.specs.Inodes.{is_live}
 use Rattle.mount_rules.specs.Mount.{File, Node, NodeTable, MountModel}
 use Rattle.object_names.specs.declared.shown.NodeKind.{NodeKind}
+use Rattle.staging_spec.specs.StagedFiles.{StagedContent}
 
 -- What is seen of a node that is there. A directory has the source and the size 0.
 pub record Sight : Type 0 where
@@ -44,12 +45,13 @@ current_at table name =
     option_and_then (λ number. option_map (λ sight. record { number = number; sight = sight }) (sight_at table number)) (fin.get table.current name)
 
 -- Where a request looks: at the node that its head names, at a second directory, at a handle, at what is kept of the
--- node's object, at the current node of a name in the head's directory, and at the nodes of a list.
+-- node's object, at what is staged of it, at the current node of a name in the head's directory, and at the nodes of a list.
 pub record Looks : Type 0 where
   pub node : Option ℕ
   pub directory : Option ℕ
   pub handle : Option ℕ
   pub kept : Option ℕ
+  pub staged : Option ℕ
   pub old : Option (List ℕ)
   pub listed : List ℕ
 
@@ -58,6 +60,7 @@ pub record View : Type 0 where
   pub directory : Option Sight
   pub handle : Option Opened
   pub kept : Option Metadata
+  pub staged : Option StagedContent
   pub old : Option Named
   pub listed : List (Option Sight)
 
@@ -78,6 +81,7 @@ view_of mount looks =
       directory = option_and_then (sight_at mount.table) looks.directory;
       handle = option_and_then (fin.get mount.handles) looks.handle;
       kept = option_and_then (kept_at mount.table) looks.kept;
+      staged = option_and_then (fin.get mount.staged) looks.staged;
       old = option_and_then (old_at mount.table node) looks.old;
       listed = map (sight_at mount.table) looks.listed;
     }

@@ -1,6 +1,5 @@
 -- The rules of CREATE are sound.
-use Rattle.std.proofs.Common.{◌≡◌, ◌≢◌, ◌+◌, ◌-◌, ℕ, true, List, [], ◌∷◌, Option, Some, None, refl, sym, ap, subst, arith, inl, inr, ◌≤◌, length}
-use Rattle.std.specs.FinMap as fin
+use Rattle.std.proofs.Common.{◌≡◌, ◌≢◌, ◌+◌, ◌-◌, ℕ, true, List, [], ◌∷◌, Some, None, refl, sym, ap, subst, arith, inl, inr, ◌≤◌, length}
 use Rattle.std.specs.List.{AllByRecursion}
 use Rattle.bucket_api.specs.Metadata.{Metadata}
 use Rattle.bucket_api.specs.declared.answers.Answer.{Answer}
@@ -9,7 +8,6 @@ use Rattle.bucket_api.specs.Operation.{Operation, insert}
 use Rattle.claim_spec.specs.Conflicts.{IsClaimed}
 use Rattle.claim_spec.specs.declared.claim.Claim.{Claim}
 use Rattle.claim_spec.specs.declared.claim.ClaimKey.TheVariants as key
-use Rattle.dir_listing.specs.Kinds.{has_target}
 use Rattle.fuse_replies.specs.declared.reply.Reply.TheVariants.{Error}
 use Rattle.inode_spec.specs.Inodes.{granted, lookups_of}
 use Rattle.mount_model.specs.Observing.{Observed}
@@ -19,27 +17,31 @@ use Rattle.mount_rules.specs.Claiming.{owns_name, shares_node}
 use Rattle.fuse_replies.specs.Errno.{eexist, eio, enomem}
 use Rattle.mount_rules.specs.Guards.{part_refusal}
 use Rattle.mount_rules.specs.Laws.{GivesLater, IsCovered, Keeps, Planned, given}
-use Rattle.mount_rules.specs.Mount.{IsMount, MountModel, Node}
+use Rattle.mount_rules.specs.Mount.{IsMount, MountModel}
 use Rattle.mount_rules.specs.Plans.{Allows, IsHarmless, answers_of, done}
 use Rattle.mount_rules.specs.Requests.Create as create
 use Rattle.mount_rules.specs.Making as making
 use Rattle.mount_rules.specs.Making.{Made, new, exists, fault}
-use Rattle.mount_rules.specs.Showing.{new_node}
-use Rattle.mount_laws.proofs.Children.{HasPath-none, IsNameOf-object, no_directory}
+use Rattle.mount_rules.specs.Showing.{file_shown, new_node}
+use Rattle.mount_laws.proofs.Children.{HasPath-none, IsKeptOf-object, IsNameOf-object}
 use Rattle.mount_laws.proofs.Counting.{count_of, counts_more}
 use Rattle.mount_laws.proofs.Guarding.{in_directory-memory, part_refusal-memory}
-use Rattle.mount_laws.proofs.Keeping.{Keeps-opened, Keeps-same, TableKeeps-granted, no_Some}
-use Rattle.mount_laws.proofs.Mounts.{GivesLater-opened, GivesLater-same, GivesLater-table, GivesLater-then, IsNodeTable-of, TableLater-granted}
+use Rattle.mount_laws.proofs.Keeping.{TableKeeps-granted, no_Some}
+use Rattle.mount_laws.proofs.Leaving.{Keeps-opened, Keeps-same}
+use Rattle.mount_laws.proofs.Mounts.{GivesLater-opened, GivesLater-same, GivesLater-table, GivesLater-then, IsNodeTable-of}
 use Rattle.mount_laws.proofs.Sights.{LooksClaimed-node}
 use Rattle.mount_laws.proofs.Sound.{IsSound}
-use Rattle.mount_laws.proofs.Sources.{HandlesFrom, HandlesFrom-opened, HandlesFrom-table, NodesFrom, NodesFrom-granted, NodesFrom-same}
+use Rattle.mount_laws.proofs.Sources.{NodesFrom, NodesFrom-same, NodesFrom-told}
+use Rattle.mount_laws.proofs.Staying.{FilesStay-new}
+use Rattle.mount_laws.proofs.Tables.{TableLater-granted, next_unused}
 use Rattle.mount_laws.proofs.Telling.{Tells, TellsAlong}
-use Rattle.spare_maps.proofs.FinMaps.{number_put_same}
 
 module _ (mount : MountModel) (is : IsMount mount) (path : List ℕ) (moment : ℕ) where
   later : IsPath path → (came : Made) → GivesLater mount (create.mount_after mount path moment came)
   later path_is (new meta) =
-      let table = GivesLater-table mount is _ (TableLater-granted mount.table (IsNodeTable-of mount is) (new_node path meta moment) (IsNameOf-object meta path path_is) (omega arith)) in
+      let nodes = IsNodeTable-of mount is in
+      let table = GivesLater-table mount is _ (TableLater-granted mount.table nodes (new_node path meta moment) (IsNameOf-object meta path path_is)
+      (IsKeptOf-object meta (file_shown meta moment)) (omega arith)) (FilesStay-new mount.table.nodes mount.table.next (new_node path meta moment) (next_unused mount.table nodes)) in
       GivesLater-then table (GivesLater-opened _ table.is (record { node = mount.table.next; items = None }))
   later path_is exists = GivesLater-same mount is
   later path_is fault = GivesLater-same mount is
@@ -53,29 +55,16 @@ module _ (mount : MountModel) (is : IsMount mount) (path : List ℕ) (moment : �
 
   nodes : (Shown : List ℕ → ℕ → ℕ → Type 0) (came : Made) → ((meta : Metadata) → came ≡ new meta → Shown path meta.generation meta.size)
       → NodesFrom Shown mount.table (create.mount_after mount path moment came).table
-  nodes Shown (new meta) shows = NodesFrom-granted Shown mount.table (new_node path meta moment) (shows meta refl, no_directory (has_target meta.pairs))
+  nodes Shown (new meta) shows = NodesFrom-told Shown mount.table mount.table.next (new_node path meta moment) (shows meta refl)
   nodes Shown exists shows = NodesFrom-same Shown mount.table
   nodes Shown fault shows = NodesFrom-same Shown mount.table
-
-  handles : (came : Made) → HandlesFrom mount (create.mount_after mount path moment came)
-  handles (new meta) = HandlesFrom-opened mount (granted mount.table (new_node path meta moment)) (record { node = mount.table.next; items = None }) (λ none. record {
-    node = new_node path meta moment;
-    there = number_put_same mount.table.nodes mount.table.next (new_node path meta moment);
-    kind = no_directory (has_target meta.pairs);
-  })
-  handles exists = HandlesFrom-table mount mount.table
-  handles fault = HandlesFrom-table mount mount.table
 
   counts : (config : Config) (number : ℕ) (came : Made)
       → lookups_of (create.mount_after mount path moment came).table number ≡ (lookups_of mount.table number + given (create.reply_to config mount path moment came) number) - 0
   counts config number (new meta) = counts_more mount.table number mount.table.next (new_node path meta moment) (ap (λ n. n + 1) (sym none))
     where
-      unused : (found : Option Node) → fin.get mount.table.nodes mount.table.next ≡ found → count_of found ≡ 0
-      unused None e = refl
-      unused (Some node) e = let low = is.nodes mount.table.next node e in absurd (omega (arith, low))
-
       none : lookups_of mount.table mount.table.next ≡ 0
-      none = unused (fin.get mount.table.nodes mount.table.next) refl
+      none = ap count_of (next_unused mount.table (IsNodeTable-of mount is))
   counts config number exists = omega arith
   counts config number fault = omega arith
 
@@ -88,6 +77,11 @@ agrees : (mount : MountModel) (path : List ℕ) (moment : ℕ) → mount.negotia
 agrees mount path moment agreed (new meta) = agreed
 agrees mount path moment agreed exists = agreed
 agrees mount path moment agreed fault = agreed
+
+keeps_staged : (mount : MountModel) (path : List ℕ) (moment : ℕ) (came : Made) → (create.mount_after mount path moment came).staged ≡ mount.staged
+keeps_staged mount path moment (new meta) = refl
+keeps_staged mount path moment exists = refl
+keeps_staged mount path moment fault = refl
 
 -- the one operation is the insert of the path
 covers : (path : List ℕ) (second : ℕ) (answers : List Answer) (node : ℕ) (op : Operation) → Allows (making.plan path [] second answers) op
@@ -121,14 +115,14 @@ create_sound node name = record {
   leaves = λ at mount seen goes. leaves mount goes.is _ _ _ (inr (inl refl)) (making.made (answers_of seen));
   sees = λ at mount goes asks. let has = HasPath-none mount node name goes.is goes.free in LooksClaimed-node _ mount node has.sight has.seen (inl refl);
   covers = λ taken answers op allows. covers (create.path_of name taken.view) taken.at.second answers node op allows;
-  harmless = λ taken seen planned asks. harmless (create.path_of name taken.view) taken.at.second seen asks;
+  harmless = λ taken seen planned fits asks. harmless (create.path_of name taken.view) taken.at.second seen asks;
   bounded = λ taken seen n is planned. let one : 1 ≡ n = cc in subst (λ m. length seen ≤ m) one (asks_one (create.path_of name taken.view) taken.at.second seen planned);
   reads = λ taken wanted wants_it. absurd (no_Some wants_it);
-  of_files = λ mount wanted wants_it. absurd (no_Some wants_it);
+  of_files = λ mount wanted is wants_it. absurd (no_Some wants_it);
   agrees = λ taken mount seen agreed. agrees mount _ _ agreed (making.made (answers_of seen));
   refuses = λ view. in_directory-memory view.node (part_refusal name) (part_refusal-memory name);
+  keeps_staged = λ at mount seen errno free error. keeps_staged mount _ _ (making.made (answers_of seen));
   answers = λ taken mount seen. answered taken.at.config mount (create.path_of name taken.view) _ (making.made (answers_of seen));
   counts = λ at mount seen number other goes. counts mount goes.is _ _ at.config number (making.made (answers_of seen));
   nodes = λ Shown at mount seen goes tells. nodes mount goes.is _ _ Shown (making.made (answers_of seen)) (λ meta e. makes_shown Shown _ at.second seen meta tells e);
-  handles = λ at mount seen goes. handles mount goes.is _ _ (making.made (answers_of seen));
 }

@@ -17,11 +17,14 @@ use Rattle.mount_rules.specs.View.{Sight, sight_of}
 use Rattle.mount_laws.proofs.Changes.{on_forgotten}
 use Rattle.mount_laws.proofs.Counting.{counts_forgotten}
 use Rattle.mount_laws.proofs.Asking.{asks_none, at_most_none}
-use Rattle.mount_laws.proofs.Keeping.{TableKeeps, TableKeeps-forgotten, TableKeeps-same, Keeps-table, no_Some}
-use Rattle.mount_laws.proofs.Memory.{no_error, silent_answered}
-use Rattle.mount_laws.proofs.Mounts.{GivesLater-table, IsNodeTable-of, TableLater-given_back}
+use Rattle.mount_laws.proofs.Keeping.{TableKeeps, TableKeeps-forgotten, TableKeeps-same, no_Some}
+use Rattle.mount_laws.proofs.Leaving.{Keeps-left}
+use Rattle.mount_laws.proofs.Memory.{no_error, silent_answered, silent_is_none}
+use Rattle.mount_laws.proofs.Mounts.{GivesLater-left, IsNodeTable-of}
 use Rattle.mount_laws.proofs.Sound.{IsSound}
-use Rattle.mount_laws.proofs.Sources.{HandlesFrom-table, NodesFrom-forgotten}
+use Rattle.mount_laws.proofs.Sources.{NodesFrom-stay, NodesStay-forgotten}
+use Rattle.mount_laws.proofs.Staying.{FilesLeft-forgotten}
+use Rattle.mount_laws.proofs.Tables.{TableLater-given_back}
 
 module _ (mount : MountModel) (k count : ℕ) (held : Bool) where
   -- what is claimed where a node was found
@@ -41,22 +44,24 @@ module _ (mount : MountModel) (k count : ℕ) (held : Bool) where
       has_lookups node false some = grind (arith, nat_tests, some)
 
 pub forget_later : (mount : MountModel) → IsMount mount → (node count : ℕ) → GivesLater mount (forget.after node count mount)
-forget_later mount is node count = GivesLater-table mount is _ (TableLater-given_back mount.table (IsNodeTable-of mount is) node count (forget.is_held mount.handles node))
+forget_later mount is node count =
+    let held = forget.is_held mount.handles node in
+    GivesLater-left mount is node _ (TableLater-given_back mount.table (IsNodeTable-of mount is) node count held) (FilesLeft-forgotten mount.table node count held)
 
 pub forget_sound : (node count : ℕ) → IsSound (forget.rules node count) (λ number. if nat_eq number node then count else 0) (Some 0)
 forget_sound node count = record {
   later = λ at mount seen goes. forget_later mount goes.is node count;
-  leaves = λ at mount seen goes. Keeps-table _ mount _ (leaves mount node count (forget.is_held mount.handles node));
+  leaves = λ at mount seen goes. Keeps-left _ mount goes.is node _ (leaves mount node count (forget.is_held mount.handles node));
   sees = λ at mount goes asks. absurd (asks refl);
   covers = λ taken answers op allows. absurd allows;
-  harmless = λ taken seen planned asks. absurd (asks refl);
+  harmless = λ taken seen planned fits asks. absurd (asks refl);
   bounded = λ taken seen n is planned. at_most_none seen n is (asks_none (λ answers. done) refl seen planned);
   reads = λ taken wanted wants_it. absurd (no_Some wants_it);
-  of_files = λ mount wanted wants_it. absurd (no_Some wants_it);
+  of_files = λ mount wanted is wants_it. absurd (no_Some wants_it);
   agrees = λ taken mount seen agreed. agreed;
   refuses = λ view. no_error;
+  keeps_staged = λ at mount seen errno free error. absurd (silent_is_none errno error);
   answers = λ taken mount seen. silent_answered;
   counts = λ at mount seen number other goes. counts_forgotten mount.table number node count (forget.is_held mount.handles node) other;
-  nodes = λ Shown at mount seen goes tells. NodesFrom-forgotten Shown mount.table node count (forget.is_held mount.handles node);
-  handles = λ at mount seen goes. HandlesFrom-table mount _;
+  nodes = λ Shown at mount seen goes tells. NodesFrom-stay Shown mount.table (forget.after node count mount).table (NodesStay-forgotten mount.table node count (forget.is_held mount.handles node));
 }

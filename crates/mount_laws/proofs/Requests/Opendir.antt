@@ -17,12 +17,13 @@ use Rattle.mount_rules.specs.Requests.Opendir as opendir
 use Rattle.mount_rules.specs.View.{Sight}
 use Rattle.mount_laws.proofs.Guarding.{in_directory-memory, in_directory-none}
 use Rattle.mount_laws.proofs.Asking.{harmless_all}
-use Rattle.mount_laws.proofs.Keeping.{Keeps-opened, Keeps-same, TableKeeps-same, no_Some}
+use Rattle.mount_laws.proofs.Keeping.{TableKeeps-same, no_Some}
+use Rattle.mount_laws.proofs.Leaving.{Keeps-opened, Keeps-same}
 use Rattle.mount_laws.proofs.Memory.{no_error}
 use Rattle.mount_laws.proofs.Mounts.{GivesLater-opened, GivesLater-same}
 use Rattle.mount_laws.proofs.Sights.{LooksClaimed-node}
 use Rattle.mount_laws.proofs.Sound.{IsSound}
-use Rattle.mount_laws.proofs.Sources.{HandlesFrom, HandlesFrom-opened, HandlesFrom-table, NodesFrom, NodesFrom-same}
+use Rattle.mount_laws.proofs.Sources.{NodesFrom, NodesFrom-same}
 
 -- every operation is a list
 covers : (prefix : List ℕ) (max : ℕ) (after : Option (List ℕ)) (told : List Answer) (claimed : List Claim) (op : Operation)
@@ -69,14 +70,14 @@ module _ (mount : MountModel) (is : IsMount mount) (node : ℕ) where
   nodes Shown None = NodesFrom-same Shown mount.table
   nodes Shown (Some items) = NodesFrom-same Shown mount.table
 
-  handles : (items : Option (List DirItem)) → HandlesFrom mount (opendir.mount_after node mount items)
-  handles None = HandlesFrom-table mount mount.table
-  handles (Some items) = HandlesFrom-opened mount mount.table (record { node = node; items = Some items }) (λ none. absurd (no_Some (sym none)))
-
   counts : (number : ℕ) (items : Option (List DirItem))
       → lookups_of (opendir.mount_after node mount items).table number ≡ (lookups_of mount.table number + given (opendir.reply_to mount items) number) - 0
   counts number None = omega arith
   counts number (Some items) = omega arith
+
+keeps_staged : (node : ℕ) (mount : MountModel) (items : Option (List DirItem)) → (opendir.mount_after node mount items).staged ≡ mount.staged
+keeps_staged node mount None = refl
+keeps_staged node mount (Some items) = refl
 
 agrees : (node : ℕ) (mount : MountModel) → mount.negotiated ≡ true → (items : Option (List DirItem)) → (opendir.mount_after node mount items).negotiated ≡ true
 agrees node mount agreed None = agreed
@@ -92,14 +93,14 @@ opendir_sound node = record {
   leaves = λ at mount seen goes. leaves mount goes.is node _ _;
   sees = λ at mount goes asks. let d = in_directory-none _ (λ (sight : Sight). None) goes.free in LooksClaimed-node _ mount node d.sight d.is (inl refl);
   covers = λ taken told op allows. covers (opendir.prefix_of taken.view) taken.at.config.list_page None told (shares_node node ∷ []) op allows;
-  harmless = λ taken seen planned asks. harmless_all _ (asks_lists (opendir.prefix_of taken.view) taken.at.config.list_page None) seen planned;
+  harmless = λ taken seen planned fits asks. harmless_all _ (asks_lists (opendir.prefix_of taken.view) taken.at.config.list_page None) seen planned;
   bounded = λ taken seen n is planned. absurd (no_Some is);
   reads = λ taken wanted wants_it. absurd (no_Some wants_it);
-  of_files = λ mount wanted wants_it. absurd (no_Some wants_it);
+  of_files = λ mount wanted is wants_it. absurd (no_Some wants_it);
   agrees = λ taken mount seen agreed. agrees node mount agreed _;
   refuses = λ view. in_directory-memory view.node (λ sight. None) (λ sight. no_error);
+  keeps_staged = λ at mount seen errno free error. keeps_staged node mount _;
   answers = λ taken mount seen. reply_answers mount _;
   counts = λ at mount seen number other goes. counts mount goes.is node number _;
   nodes = λ Shown at mount seen goes tells. nodes mount goes.is node Shown _;
-  handles = λ at mount seen goes. handles mount goes.is node _;
 }

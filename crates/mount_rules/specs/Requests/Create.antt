@@ -34,7 +34,7 @@ with_new_file mount node = record mount {
 }
 
 abbrev pub reply_to : Config → MountModel → List ℕ → ℕ → Made → Reply
-reply_to config mount path moment (new meta) = Created (entry_of config mount.table.next (new_node path meta moment)) mount.next_handle
+reply_to config mount path moment (new meta) = Created (entry_of config mount.table.next (new_node path meta moment) None) mount.next_handle
 reply_to config mount path moment exists = Error eexist
 reply_to config mount path moment fault = Error eio
 

@@ -1,11 +1,14 @@
 -- LOOKUP: the node of a name in a directory. After gcsfuse: the directory of the name is looked for first, and then the
 -- object; a name with the suffix means the file that a directory of the same name hides.
 use Rattle.std.specs.Prelude.{ℕ, Bool, false, ◌∷◌, [], nat_lt, length, List, Option, None, if◌then◌else◌}
+use Rattle.std.specs.FinMap as fin
+use Rattle.std.specs.Option.{option_map_or}
 use Rattle.bucket_api.specs.Metadata.{Metadata}
 use Rattle.bucket_api.specs.declared.answers.Answer.{Answer}
 use Rattle.bucket_api.specs.declared.answers.Answer.TheVariants as answers
 use Rattle.bucket_api.specs.Operation.{Operation, stat, list}
 use Rattle.claim_spec.specs.declared.claim.Claim.{Claim}
+use Rattle.fuse_replies.specs.declared.reply.EntryOut.{EntryOut}
 use Rattle.fuse_replies.specs.declared.reply.Reply.{Reply}
 use Rattle.fuse_replies.specs.declared.reply.Reply.TheVariants.{Error, Entry}
 use Rattle.mount_model.specs.declared.config.Config.{Config}
@@ -14,10 +17,10 @@ use Rattle.mount_rules.specs.Attributes.{entry_of}
 use Rattle.mount_rules.specs.Claiming.{shares_node, shares_name}
 use Rattle.fuse_replies.specs.Errno.{eio, enoent}
 use Rattle.mount_rules.specs.Guards.{in_directory, part_refusal, path_in}
-use Rattle.mount_rules.specs.Mount.{NodeTable}
+use Rattle.mount_rules.specs.Mount.{MountModel, NodeTable}
 use Rattle.mount_rules.specs.Plans.{Step, answers_of, ask, done, last_moment}
 use Rattle.mount_rules.specs.Rules.{Rules, at_node}
-use Rattle.mount_rules.specs.Showing.{shown_by, after_showing, directory_by, after_directory}
+use Rattle.mount_rules.specs.Showing.{Numbered, after_showing, current_shown, directory_by, after_directory, new_node, object_again}
 use Rattle.mount_rules.specs.View.{View}
 
 abbrev pub refusal : List ℕ → View → Option ℕ
@@ -85,12 +88,23 @@ errno_of (object meta) = 0
 errno_of nothing = enoent
 errno_of fault = eio
 
+-- the entry of an object that the bucket showed at a moment: of the current node of its path, with what is staged of it,
+-- or of a new node, of which nothing is staged
+abbrev pub object_entry : Config → MountModel → List ℕ → Metadata → ℕ → EntryOut
+object_entry config mount path meta moment =
+    option_map_or (λ (shown : Numbered). entry_of config shown.number shown.node (fin.get mount.staged shown.number))
+    (current_shown (object_again meta moment) mount.table path)
+    (entry_of config mount.table.next (new_node path meta moment) None)
+
+abbrev pub directory_entry : Config → NodeTable → List ℕ → EntryOut
+directory_entry config table prefix = let shown = directory_by table prefix in entry_of config shown.number shown.node None
+
 -- what a look-up that found this at a moment is answered
-abbrev pub reply_to : Config → NodeTable → List ℕ → ℕ → Found → Reply
-reply_to config table path moment directory = let shown = directory_by table (dir_prefix_of path) in Entry (entry_of config shown.number shown.node)
-reply_to config table path moment (object meta) = let shown = shown_by table path meta moment in Entry (entry_of config shown.number shown.node)
-reply_to config table path moment nothing = Error enoent
-reply_to config table path moment fault = Error eio
+abbrev pub reply_to : Config → MountModel → List ℕ → ℕ → Found → Reply
+reply_to config mount path moment directory = Entry (directory_entry config mount.table (dir_prefix_of path))
+reply_to config mount path moment (object meta) = Entry (object_entry config mount path meta moment)
+reply_to config mount path moment nothing = Error enoent
+reply_to config mount path moment fault = Error eio
 
 -- the nodes that are then there
 abbrev pub table_after : NodeTable → List ℕ → ℕ → Found → NodeTable
@@ -110,6 +124,6 @@ rules node name = record {
   wants = λ view. None;
   claims = claims node name;
   keys = λ view. dir_prefix_of (path_of name view) ∷ path_of name view ∷ [];
-  reply = λ taken mount seen. reply_to taken.at.config mount.table (path_of name taken.view) (last_moment seen) (found (answers_of seen));
+  reply = λ taken mount seen. reply_to taken.at.config mount (path_of name taken.view) (last_moment seen) (found (answers_of seen));
   after = λ taken mount seen. record mount { table = table_after mount.table (path_of name taken.view) (last_moment seen) (found (answers_of seen)) };
 }

@@ -1,6 +1,7 @@
 -- OPEN: opens a file (fuse.h: `struct fuse_open_in`, whose flags are not looked at). It is opened where the generation
--- that the node shows is live under its name; where that is live no more, the node is stale.
-use Rattle.std.specs.Prelude.{ℕ, ◌+◌, Option, Some, None}
+-- that the node shows is live under its name; where that is live no more, the node is stale. A file with staged content
+-- is opened without being asked for.
+use Rattle.std.specs.Prelude.{ℕ, ◌+◌, Option, None}
 use Rattle.std.specs.FinMap as fin
 use Rattle.fuse_replies.specs.Errno.{eio, estale}
 use Rattle.fuse_replies.specs.declared.reply.Reply.{Reply}
@@ -8,7 +9,7 @@ use Rattle.fuse_replies.specs.declared.reply.Reply.TheVariants.{Error, Opened}
 use Rattle.mount_rules.specs.Guards.{in_file}
 use Rattle.mount_rules.specs.Mount.{MountModel, NodeTable}
 use Rattle.mount_rules.specs.Plans.{answers_of, last_moment}
-use Rattle.mount_rules.specs.Rules.{Rules, at_node}
+use Rattle.mount_rules.specs.Rules.{Rules, at_file}
 use Rattle.mount_rules.specs.Standing as standing
 use Rattle.mount_rules.specs.Standing.{Standing, unasked, live, gone, fault, table_after, generation_seen}
 use Rattle.mount_rules.specs.View.{View}
@@ -38,7 +39,7 @@ mount_after node mount moment fault = mount
 
 abbrev pub rules : ℕ → Rules
 rules node = record {
-  looks = at_node node;
+  looks = at_file node;
   refusal = refusal;
   plan = λ taken. standing.plan (standing.asked_name taken.view);
   wants = λ view. None;

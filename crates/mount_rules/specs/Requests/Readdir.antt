@@ -1,6 +1,6 @@
 -- READDIR: entries of an open directory, from a position on, as many whole ones as fit (fuse.h: `struct fuse_dirent`). A
 -- position is an entry's place among the handle's entries, from 0, and an entry's `off` is the position behind it.
-use Rattle.std.specs.Prelude.{ℕ, ◌+◌, ◌-◌, [], ◌∷◌, drop, option_and_then, List, Option, Some, None, nat_le, if◌then◌else◌}
+use Rattle.std.specs.Prelude.{ℕ, ◌+◌, ◌-◌, [], ◌∷◌, drop, option_and_then, List, Option, None, nat_le, if◌then◌else◌}
 use Rattle.std.specs.Option.{option_map_or}
 use Rattle.fuse_replies.specs.declared.reply.Dirent.{Dirent}
 use Rattle.fuse_replies.specs.declared.reply.Reply.{Reply}

@@ -1,5 +1,7 @@
 -- The laws of requests.
 use Rattle.mount_laws.proofs.RequestLaws.{stays_mount, leaves_others, claims_protect, claims_cover, never_out_of_memory, harmless_while_asking, asks_at_most, may_read_wanted, wants_of_files}
+use Rattle.mount_laws.proofs.FlushLaws.{flushes_own, flushes_protect}
+use Rattle.mount_laws.proofs.Refusals.{full_is_refused, refused_keeps_staged}
 use Rattle.mount_laws.proofs.ParentLaws.{parents_are_claimed, parents_protect}
 use Rattle.mount_laws.proofs.laws.request_laws.Goals as goal
 
@@ -18,6 +20,12 @@ returns-clause-parents c = parents_protect
 pub returns-clause-claimed : goal.returns-clause-claimed
 returns-clause-claimed c = parents_are_claimed
 
+pub returns-clause-flushes : goal.returns-clause-flushes
+returns-clause-flushes c = flushes_protect
+
+pub returns-clause-owned : goal.returns-clause-owned
+returns-clause-owned c = flushes_own
+
 pub returns-clause-covers : goal.returns-clause-covers
 returns-clause-covers c = claims_cover
 
@@ -35,3 +43,9 @@ returns-clause-reads c = may_read_wanted
 
 pub returns-clause-sources : goal.returns-clause-sources
 returns-clause-sources c = wants_of_files
+
+pub returns-clause-refused : goal.returns-clause-refused
+returns-clause-refused c = refused_keeps_staged
+
+pub returns-clause-full : goal.returns-clause-full
+returns-clause-full c = full_is_refused
