@@ -1,15 +1,14 @@
 //! Errands on files, and what each asks next.
-ghost use Rattle.std.specs.Prelude.{◌≡◌, ◌≢◌, IfOk, IfSome, IsSome, OnErr, option_map};
-ghost use Rattle.bucket_api.specs.Operation.{operation, IsAllowed};
-ghost use Rattle.mount_model.specs.Observing.{finish, next_step};
-ghost use Rattle.mount_rules.specs.Plans.{MayMake};
-ghost use Rattle.mount_rules.specs.Reading as reading;
-ghost use Rattle.mount_rules.specs.Standing as standing;
-ghost use Rattle.plan_files.specs.Errands.{asked_next, errno_of, errno_of_reads, errno_of_standing, read_of, wanted_of, IsErrand};
+ghost use Rattle.std.specs.Prelude.{◌≡◌, ◌≤◌, [], length, IfOk, IfSome, IsSome, OnErr, option_map};
+ghost use Rattle.bucket_api.specs.Names.{IsObjectName};
+ghost use Rattle.bucket_api.specs.Operation.{max_content, operation, read, IsAllowed};
+ghost use Rattle.mount_model.specs.Observing.{next_step};
+ghost use Rattle.mount_rules.specs.Plans.{ask};
+ghost use Rattle.plan_files.specs.Errands.{asked_next, flush_next, insert_next, plan_of, read_of, touch_of, wanted_of, IsErrand, IsFlush, IsMade, IsTime, MayAsk};
 
-use bucket_api::{Answer, Op};
-use fuse_replies::errno::{EIO, ESTALE};
-use io_ports::{NoMemory, Text};
+use crate::times::with_time;
+use bucket_api::{Answer, Op, Pair};
+use io_ports::{Bytes, NoMemory, Row, Text};
 use mount_model::Next;
 use staged_file::Wanted;
 use std::alloc::Global;
@@ -31,20 +30,53 @@ pub enum FileErrand {
         /// The bytes that are wanted of it.
         wanted: Wanted,
     },
+    /// Makes the staged content of a file a new generation of its object, only where the one that the file shows is live.
+    Flush {
+        /// The name of the object.
+        name: Text,
+        /// The generation that the file shows.
+        generation: u64,
+        /// The bytes that are wanted of it.
+        wanted: Wanted,
+        /// The metadata of the new generation, by rising keys.
+        pairs: Row<Pair>,
+    },
+    /// Sets the time of a file on its object, only where the generation that the file shows is live.
+    Touch {
+        /// The name of the object.
+        name: Text,
+        /// The generation that the file shows.
+        generation: u64,
+        /// The second, at most 249,999,999,999.
+        seconds: u64,
+        /// The nanoseconds past that, at most 999,999,999.
+        nanos: u32,
+    },
 }
 
-/// What the errand asks of the bucket next, after it was answered so: one stat, or one read of what is wanted, and nothing
-/// where nothing is. `NoMemory` comes only where an operation is still to be made.
-pub fn next_op(alloc: Global, errand: &FileErrand, answers: &[Answer]) -> Result<Next, NoMemory>
+/// What the errand asks of the bucket next, after it was answered so; `second` stamps what it makes. A stat and an update
+/// are asked once. What is wanted of a generation is read at once; a flush then inserts its staged content, unless its read
+/// wasn't given bytes. `NoMemory` comes only where an operation is still to be made, and so never behind the answer to an
+/// insert or an update.
+pub fn next_op(
+    alloc: Global,
+    errand: &FileErrand,
+    second: u64,
+    answers: &[Answer],
+) -> Result<Next, NoMemory>
     requires { IsErrand errand.now }
-    ensures ok { IfOk result (λ next. next_step next ≡ asked_next errand.now answers.now) }
-    ensures may { IfOk result (λ next. MayMake (next_step next)) }
-    ensures err { OnErr result (asked_next errand.now answers.now ≢ finish) }
+    ensures ok { IfOk result (λ next. next_step next ≡ asked_next errand.now second answers.now) }
+    ensures may { IfOk result (λ next. MayAsk (next_step next)) }
+    ensures err { OnErr result (IsMade (asked_next errand.now second answers.now)) }
 {
-    if !answers.is_empty() {
-        return Ok(Next::Finish);
-    }
     match errand {
+        FileErrand::Flush {
+            name,
+            generation,
+            wanted,
+            pairs: _,
+        } => next_of_flush(alloc, name, *generation, wanted, answers),
+        _ if !answers.is_empty() => Ok(Next::Finish),
         FileErrand::Attr { name } => Ok(Next::Do(Op::Stat {
             name: name.copy(alloc)?,
         })),
@@ -52,6 +84,49 @@ pub fn next_op(alloc: Global, errand: &FileErrand, answers: &[Answer]) -> Result
             Some(op) => Ok(Next::Do(op)),
             None => Ok(Next::Finish),
         },
+        FileErrand::Touch {
+            name,
+            generation,
+            seconds,
+            nanos,
+        } => {
+            let op = touch(alloc, name, *generation, *seconds, *nanos, second)?;
+            Ok(Next::Do(op))
+        }
+    }
+}
+
+/// What a flush asks next: the read of what it wants, where it wants anything, and behind that its insert.
+fn next_of_flush(
+    alloc: Global,
+    name: &Text,
+    generation: u64,
+    wanted: &Wanted,
+    answers: &[Answer],
+) -> Result<Next, NoMemory>
+    requires { IsObjectName name.now }
+    ensures ok { IfOk result (λ next. next_step next ≡ flush_next name.now generation wanted.now answers.now) }
+    ensures may { IfOk result (λ next. MayAsk (next_step next)) }
+    ensures err { OnErr result (IsMade (flush_next name.now generation wanted.now answers.now)) }
+{
+    if wanted.count == 0 {
+        return Ok(insert_once(answers));
+    }
+    match answers {
+        [] => Ok(Next::Do(read(alloc, name, generation, wanted)?)),
+        [Answer::Bytes(_), rest @ ..] => Ok(insert_once(rest)),
+        _ => Ok(Next::Finish),
+    }
+}
+
+/// The insert of staged content is asked once.
+fn insert_once(answers: &[Answer]) -> Next
+    ensures ok { next_step result ≡ insert_next answers.now }
+    ensures may { MayAsk (next_step result) }
+{
+    match answers {
+        [] => Next::Insert,
+        _ => Next::Finish,
     }
 }
 
@@ -63,56 +138,83 @@ pub fn read_op(alloc: Global, errand: &FileErrand) -> Result<Option<Op>, NoMemor
     ensures may { IfOk result (λ found. IfSome found (λ op. IsAllowed (operation op))) }
     ensures err { OnErr result (IsSome (wanted_of errand.now)) }
 {
-    let FileErrand::Source {
-        name,
-        generation,
-        wanted,
-    } = errand
-    else {
-        return Ok(None);
-    };
-    if wanted.count == 0 {
-        return Ok(None);
+    match errand {
+        FileErrand::Source {
+            name,
+            generation,
+            wanted,
+        }
+        | FileErrand::Flush {
+            name,
+            generation,
+            wanted,
+            pairs: _,
+        } if wanted.count > 0 => Ok(Some(read(alloc, name, *generation, wanted)?)),
+        _ => Ok(None),
     }
-    Ok(Some(Op::Read {
+}
+
+/// The read of a range of a generation.
+fn read(alloc: Global, name: &Text, generation: u64, wanted: &Wanted) -> Result<Op, NoMemory>
+    requires { IsObjectName name.now }
+    ensures ok { IfOk result (λ op. operation op ≡ read name.now generation wanted.now.first wanted.now.count) }
+    ensures may { IfOk result (λ op. IsAllowed (operation op)) }
+{
+    Ok(Op::Read {
         name: name.copy(alloc)?,
-        generation: *generation,
+        generation,
         first: wanted.first,
         count: wanted.count,
-    }))
+    })
 }
 
-/// The error that the errand ends in once it was answered so, 0 where it ends well: EIO where the bucket failed, and ESTALE
-/// where a generation to be read is live no more.
-pub fn errno(errand: &FileErrand, answers: &[Answer]) -> u32
-    ensures { result ≡ errno_of errand.now answers.now }
+/// The update of a time, where the generation that is shown is live.
+fn touch(
+    alloc: Global,
+    name: &Text,
+    shown: u64,
+    seconds: u64,
+    nanos: u32,
+    second: u64,
+) -> Result<Op, NoMemory>
+    requires name { IsObjectName name.now }
+    requires time { IsTime seconds nanos }
+    ensures ok { IfOk result (λ op. operation op ≡ touch_of name.now shown seconds nanos second) }
+    ensures may { IfOk result (λ op. IsAllowed (operation op)) }
 {
-    match errand {
-        FileErrand::Attr { .. } => errno_of_stat(answers),
-        FileErrand::Source { .. } => errno_of_reads(answers),
-    }
+    let pairs = with_time(alloc, &Row::new(alloc), seconds, nanos)?;
+    Ok(Op::Update {
+        name: name.copy(alloc)?,
+        pairs,
+        only: Some(shown),
+        only_meta: None,
+        stamp: second,
+    })
 }
 
-/// The error of a stat.
-fn errno_of_stat(answers: &[Answer]) -> u32
-    ensures { result ≡ errno_of_standing (standing.standing 0 answers.now) }
+/// The insert of a flush, with this content, at most 16,777,216 bytes; `second` stamps it. It takes no memory: what the
+/// errand and the content own goes over into it.
+pub fn insert_op(errand: FileErrand, second: u64, content: Bytes) -> Op
+    requires flush { IsFlush errand }
+    requires errand { IsErrand errand }
+    requires short { length content ≤ max_content }
+    ensures ok { plan_of errand content second [] ≡ ask (operation result) }
+    ensures may { IsAllowed (operation result) }
 {
-    match answers {
-        [] | [Answer::Meta(_) | Answer::NotFound, ..] => 0,
-        _ => EIO,
+    let FileErrand::Flush {
+        name,
+        generation,
+        wanted: _,
+        pairs,
+    } = errand
+    else {
+        unreachable!();
+    };
+    Op::Insert {
+        name,
+        content,
+        pairs,
+        only: Some(generation),
+        stamp: second,
     }
-}
-
-/// The error of reads: that of the first one that was not given bytes.
-fn errno_of_reads(answers: &[Answer]) -> u32
-    ensures { result ≡ errno_of_reads (reading.reads answers.now) }
-{
-    for answer in answers {
-        match answer {
-            Answer::Bytes(_) => {},
-            Answer::NotFound => return ESTALE,
-            _ => return EIO,
-        }
-    }
-    0
 }

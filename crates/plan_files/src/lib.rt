@@ -3,9 +3,17 @@
 #![tactic(auto)]
 
 mod errand;
+mod errors;
 mod outcomes;
+mod setting;
 #[cfg(test)]
 mod tests;
+mod times;
 
-pub use errand::{FileErrand, errno, next_op, read_op};
-pub use outcomes::{Reads, Standing, outcome_of_reads, outcome_of_stat};
+pub use errand::{FileErrand, insert_op, next_op, read_op};
+pub use errors::errno;
+pub use outcomes::{
+    Came, Reads, Standing, outcome_of_flush, outcome_of_reads, outcome_of_stat, outcome_of_update,
+};
+pub use setting::{Asked, Change};
+pub use times::with_time;

@@ -2,8 +2,10 @@
 ghost use Rattle.std.specs.Prelude.{◌≡◌};
 ghost use Rattle.mount_rules.specs.Plans.{answers_of};
 ghost use Rattle.mount_rules.specs.Reading as reading;
+ghost use Rattle.mount_rules.specs.Requests.Flush as flush;
+ghost use Rattle.mount_rules.specs.Requests.Setattr as setattr;
 ghost use Rattle.mount_rules.specs.Standing as standing;
-ghost use Rattle.plan_files.specs.Outcomes.{as_reads, as_standing};
+ghost use Rattle.plan_files.specs.Outcomes.{as_came, as_reads, as_standing};
 
 use bucket_api::{Answer, Meta};
 use io_ports::Row;
@@ -31,6 +33,17 @@ pub enum Reads {
     Gone,
     /// The bucket failed.
     Failed,
+}
+
+/// What came of a flush.
+#[derive(Drop)]
+pub enum Came {
+    /// A new generation, as the bucket told of it.
+    Made(Meta),
+    /// None: the source is live no more.
+    Stale,
+    /// The bucket failed.
+    Fault,
 }
 
 /// How a generation stands, by what was observed. It takes no memory.
@@ -67,4 +80,46 @@ pub fn outcome_of_reads(seen: &[Observation]) -> Reads
         }
     }
     Reads::Given
+}
+
+/// How a generation stands, by the answer to its update. It takes no memory.
+pub fn outcome_of_update(seen: Row<Observation>) -> Standing
+    ensures { as_standing result ≡ setattr.standing_of (answers_of seen.items) }
+{
+    let mut seen = seen.into_vec();
+    if seen.is_empty() {
+        return Standing::Unasked;
+    }
+    updated_by(seen.swap_remove(0).answer)
+}
+
+/// How a generation stands, by the answer to its update.
+fn updated_by(answer: Answer) -> Standing
+    ensures { as_standing result ≡ setattr.standing_by answer }
+{
+    match answer {
+        Answer::Meta(meta) => Standing::Live(meta),
+        Answer::NotFound | Answer::Precondition { .. } => Standing::Gone,
+        _ => Standing::Fault,
+    }
+}
+
+/// What came of the flush that observed this: reads of the source, and then the insert. It takes no memory.
+pub fn outcome_of_flush(seen: Row<Observation>) -> Came
+    ensures { as_came result ≡ flush.came_of (answers_of seen.items) }
+{
+    for observed in seen.into_vec() {
+        let Observation {
+            op: _,
+            moment: _,
+            answer,
+        } = observed;
+        match answer {
+            Answer::Bytes(_) => {},
+            Answer::Meta(meta) => return Came::Made(meta),
+            Answer::NotFound | Answer::Precondition { .. } => return Came::Stale,
+            _ => return Came::Fault,
+        }
+    }
+    Came::Fault
 }

@@ -1,0 +1,3 @@
+-- The lemmas that the proofs of `plan_files` cite.
+pub mod BitLaws
+mod PairLemmas
