@@ -26,7 +26,7 @@ use Rattle.mount_rules.specs.Guards.{longest_read, size_refusal}
 use Rattle.mount_rules.specs.Requests.Readdir.{dirent_at, fitting}
 use Rattle.object_names.specs.declared.shown.DirItem.{DirItem}
 use Rattle.mount_laws.proofs.Keeping.{no_Some}
-use Rattle.mount_state.specs.Spares.{Provided, entries, handle, nothing, path, provided_for}
+use Rattle.mount_state.specs.Spares.{Provided, entries, provided_for}
 
 -- the entries that fit into so many bytes have at most so many
 pub length-fitting : (position room : ℕ) (items : List DirItem) → length (dirents_text (fitting position room items)) ≤ room
@@ -64,10 +64,8 @@ no_refusal mount request free = by (not mount.negotiated && not (is_silent reque
     by false e = e
 
 abbrev entries_of : Provided → List Dirent
-entries_of nothing = []
-entries_of handle = []
-entries_of (path name) = []
 entries_of (entries dirents) = dirents
+entries_of provided = []
 
 -- the reply of a READDIR can be sent: it is no longer than what was asked for
 pub sendable_entries : (mount : MountModel) (request : Request) (node fh first size : ℕ) (provided : Provided) (items : List Dirent) → request ≡ Readdir node fh first size

@@ -5,7 +5,7 @@ use Rattle.std.specs.Option.{option_map_or}
 use Rattle.fuse_replies.specs.declared.reply.Reply.TheVariants.{Error, Silent}
 use Rattle.fuse_requests.specs.Grammar.{without_spare}
 use Rattle.fuse_requests.specs.declared.request.Request.{Request}
-use Rattle.fuse_requests.specs.declared.request.Request.TheVariants.{BatchForget, Create, Destroy, Forget, Fsyncdir, Getattr, Init, Lookup, Opendir, Opening, Read, Readdir, Release, Releasedir, Statfs}
+use Rattle.fuse_requests.specs.declared.request.Request.TheVariants.{BatchForget, Create, Destroy, Flush, Forget, Fsync, Fsyncdir, Getattr, Init, Lookup, Opendir, Opening, Read, Readdir, Release, Releasedir, Setattr, Statfs, Write}
 use Rattle.fuse_requests.specs.declared.request.Forgotten.{Forgotten}
 use Rattle.io_ports.specs.RowItems.{RowItems}
 use Rattle.mount_model.specs.Observing.{Observed}
@@ -18,10 +18,14 @@ pub record HasNoEnd (request : Request) : Type 0 where
   pub lookup : (node : ℕ) (name : List ℕ) → request ≡ Lookup node name → ⊥
   pub forget : (node count : ℕ) → request ≡ Forget node count → ⊥
   pub getattr : (node : ℕ) → request ≡ Getattr node → ⊥
+  pub setattr : (node valid size mtime nanos : ℕ) → request ≡ Setattr node valid size mtime nanos → ⊥
   pub opening : (node flags : ℕ) → request ≡ Opening node flags → ⊥
   pub read : (node fh first size : ℕ) → request ≡ Read node fh first size → ⊥
+  pub write : (node fh first : ℕ) (content : List ℕ) → request ≡ Write node fh first content → ⊥
   pub statfs : request ≡ Statfs → ⊥
   pub release : (node fh : ℕ) → request ≡ Release node fh → ⊥
+  pub fsync : (node fh : ℕ) → request ≡ Fsync node fh → ⊥
+  pub flush : (node fh : ℕ) → request ≡ Flush node fh → ⊥
   pub init : (major minor readahead flags : ℕ) → request ≡ Init major minor readahead flags → ⊥
   pub opendir : (node : ℕ) → request ≡ Opendir node → ⊥
   pub readdir : (node fh first size : ℕ) → request ≡ Readdir node fh first size → ⊥
@@ -47,10 +51,14 @@ module _ (at : AtTake) (mount : MountModel) (seen : List Observed) where
   stays_quiet (Lookup node name) other free = absurd (other.lookup node name refl)
   stays_quiet (Forget node count) other free = absurd (other.forget node count refl)
   stays_quiet (Getattr node) other free = absurd (other.getattr node refl)
+  stays_quiet (Setattr node valid size mtime nanos) other free = absurd (other.setattr node valid size mtime nanos refl)
   stays_quiet (Opening node flags) other free = absurd (other.opening node flags refl)
   stays_quiet (Read node fh first size) other free = absurd (other.read node fh first size refl)
+  stays_quiet (Write node fh first content) other free = absurd (other.write node fh first content refl)
   stays_quiet Statfs other free = absurd (other.statfs refl)
   stays_quiet (Release node fh) other free = absurd (other.release node fh refl)
+  stays_quiet (Fsync node fh) other free = absurd (other.fsync node fh refl)
+  stays_quiet (Flush node fh) other free = absurd (other.flush node fh refl)
   stays_quiet (Init major minor readahead flags) other free = absurd (other.init major minor readahead flags refl)
   stays_quiet (Opendir node) other free = absurd (other.opendir node refl)
   stays_quiet (Readdir node fh first size) other free = absurd (other.readdir node fh first size refl)

@@ -10,10 +10,12 @@ use Rattle.fuse_replies.specs.declared.reply.EntryOut.{EntryOut}
 use Rattle.inode_spec.specs.Inodes.{file_of, granted, looked, looked_up, with_file, with_inode}
 use Rattle.mount_model.specs.declared.config.Config.{Config}
 use Rattle.mount_rules.specs.Attributes.{entry_of}
-use Rattle.mount_rules.specs.Mount.{File, Node, NodeTable}
+use Rattle.mount_rules.specs.Mount.{File, MountModel, Node, NodeTable}
+use Rattle.mount_rules.specs.Requests.Lookup.{object_entry}
 use Rattle.mount_rules.specs.Showing.{Numbered, after_directory, after_showing, current_shown, directory_again, directory_by, new_directory, new_node, number_shown, object_again, refreshed, shown_by, shown_or_new, stands_for, with_shown_or_new}
 use Rattle.mount_laws.proofs.Keeping.{no_Some, same_Some}
 use Rattle.spare_maps.proofs.FinMaps.{get-insert_number, number_put_same}
+use Rattle.staging_spec.specs.StagedFiles.{StagedContent}
 
 -- what is put last under a number is there
 pub put_twice : {X : Type 0} (m : fin.FinMap nat_cmp X) (k : ℕ) (a b : X) → fin.insert (fin.insert m k a) k b ≡ fin.insert m k b
@@ -162,9 +164,9 @@ module _ (table : NodeTable) (name : List ℕ) (meta : Metadata) (moment : ℕ) 
 pub is_there : (table : NodeTable) (number : ℕ) (node : Node) → fin.get table.nodes number ≡ Some node → IsSome (fin.get table.nodes number)
 is_there table number node there = ap is_some there
 
-pub entry_told : (config : Config) (table : NodeTable) (number : ℕ) (node : Node) (entry : EntryOut) → fin.get table.nodes number ≡ Some node
-    → IfSome (fin.get table.nodes number) (λ inode. entry ≡ entry_of config number inode) → entry ≡ entry_of config number node
-entry_told config table number node entry there told = subst (λ (found : Option Node). IfSome found (λ inode. entry ≡ entry_of config number inode)) there told
+pub entry_told : (config : Config) (table : NodeTable) (number : ℕ) (node : Node) (staged : Option StagedContent) (entry : EntryOut) → fin.get table.nodes number ≡ Some node
+    → IfSome (fin.get table.nodes number) (λ inode. entry ≡ entry_of config number inode staged) → entry ≡ entry_of config number node staged
+entry_told config table number node staged entry there told = subst (λ (found : Option Node). IfSome found (λ inode. entry ≡ entry_of config number inode staged)) there told
 
 -- a new node is there
 pub granted_there : (table after : NodeTable) (number : ℕ) (node : Node) → number ≡ table.next → after ≡ granted table node → fin.get after.nodes number ≡ Some node
@@ -172,6 +174,21 @@ granted_there table after number node is made =
     ap (λ (t : NodeTable). fin.get t.nodes number) made ∙ ap (fin.get (fin.insert table.nodes table.next node)) is ∙ number_put_same table.nodes table.next node
 
 pub entry_granted : (config : Config) (table after : NodeTable) (number : ℕ) (node : Node) (entry : EntryOut) → number ≡ table.next → after ≡ granted table node
-    → IfSome (fin.get after.nodes number) (λ inode. entry ≡ entry_of config number inode) → entry ≡ entry_of config table.next node
+    → IfSome (fin.get after.nodes number) (λ inode. entry ≡ entry_of config number inode None) → entry ≡ entry_of config table.next node None
 entry_granted config table after number node entry is made told =
-    entry_told config after number node entry (granted_there table after number node is made) told ∙ ap (λ n. entry_of config n node) is
+    entry_told config after number node None entry (granted_there table after number node is made) told ∙ ap (λ n. entry_of config n node None) is
+
+-- ---- the entry of an object
+module _ (config : Config) (mount : MountModel) (name : List ℕ) (meta : Metadata) (moment : ℕ) where
+  -- of a node that shows it again
+  pub entry_again : (number : ℕ) → (s : IsShownAgain (object_again meta moment) mount.table name number)
+      → entry_of config number s.shown (fin.get mount.staged number) ≡ object_entry config mount name meta moment
+  entry_again number s =
+      sym (ap (λ o. option_map_or (λ (shown : Numbered). entry_of config shown.number shown.node (fin.get mount.staged shown.number)) o (entry_of config mount.table.next (new_node name meta moment) None)) s.found)
+
+  -- or of a new one
+  pub entry_new : None ≡ number_shown (object_again meta moment) mount.table name
+      → entry_of config mount.table.next (new_node name meta moment) None ≡ object_entry config mount name meta moment
+  entry_new none =
+      sym (ap (λ o. option_map_or (λ (shown : Numbered). entry_of config shown.number shown.node (fin.get mount.staged shown.number)) o (entry_of config mount.table.next (new_node name meta moment) None))
+      (shown_by_none (object_again meta moment) mount.table name (sym none)))

@@ -1,6 +1,8 @@
 -- The words that the contracts of `mount_state` cite.
 pub mod Codes
+pub mod Files
 pub mod Mounts
 pub mod Serving
 pub mod Spares
+pub mod StagedAttrs
 pub mod Tables

@@ -1,5 +1,5 @@
--- With what a request comes to its end: the settings, and the bytes of its source that it wants.
-use Rattle.std.specs.Prelude.{◌≡◌, length}
+-- With what a request comes to its end: the settings, the second of its take, and the bytes of its source that it wants.
+use Rattle.std.specs.Prelude.{◌≡◌, ℕ, length}
 use Rattle.fuse_requests.specs.declared.request.Request.{Request}
 use Rattle.mount_model.specs.declared.config.Config.{Config}
 use Rattle.mount_rules.specs.Dispatch.{wants}
@@ -9,10 +9,11 @@ use Rattle.mount_rules.specs.Rules.{AtTake}
 use Rattle.mount_state.specs.declared.base.Base.{Base}
 
 -- the base reaches over what the request wants
-abbrev pub Serves : MountModel → Request → Base → Type 0
-Serves mount request base = CoversWanted (wants mount request) base.first (length base.bytes)
+abbrev pub Serves : Config → MountModel → Request → Base → Type 0
+Serves config mount request base = CoversWanted (wants config mount request) base.first (length base.bytes)
 
--- the take had these settings, and what the base has are bytes of the source as it then stood
-pub record IsServedAt (config : Config) (mount : MountModel) (request : Request) (base : Base) (at : AtTake) : Type 0 where
+-- the take had these settings and this second, and what the base has are bytes of the source as it then stood
+pub record IsServedAt (config : Config) (second : ℕ) (mount : MountModel) (request : Request) (base : Base) (at : AtTake) : Type 0 where
   pub settings : at.config ≡ config
-  pub holds : HoldsWanted at.contents (wants mount request) base.first base.bytes
+  pub second_is : at.second ≡ second
+  pub holds : HoldsWanted at.contents (wants config mount request) base.first base.bytes

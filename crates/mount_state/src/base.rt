@@ -1,7 +1,8 @@
 //! Bytes of a source.
-ghost use Rattle.std.specs.Prelude.{◌≡◌, ◌-◌, [], drop, take};
+ghost use Rattle.std.specs.Prelude.{◌≡◌, ◌-◌, [], drop, take, nat_lt, if◌then◌else◌};
 
 use io_ports::Bytes;
+use staged_file::Wanted;
 use std::alloc::Global;
 
 /// Bytes of the source of a file, from a place on: what a request wants of it, or more.
@@ -22,6 +23,16 @@ impl Base {
             first: 0,
             bytes: Bytes::from_vec(Vec::new(alloc)),
         }
+    }
+
+    /// The bytes, for a request that wants these of the source; none where it wants none, for then they may be any.
+    pub(crate) fn bytes_for(&self, wanted: Wanted) -> &[u8]
+        ensures { result.now ≡ (if nat_lt 0 wanted.count then self.now.bytes else []) }
+    {
+        if wanted.count > 0 {
+            return self.bytes.as_slice();
+        }
+        &[]
     }
 
     /// The bytes of a range of the source, as many as are there. They stay where they lie, but for those before the range,

@@ -3,7 +3,10 @@ ghost use Rattle.std.specs.Prelude.{◌≡◌, ◌<◌, ◌^◌, None};
 ghost use Rattle.fuse_replies.specs.Replies.{IsSendable, without_spare as reply_without_spare};
 ghost use Rattle.fuse_requests.specs.Grammar.{without_spare};
 ghost use Rattle.mount_rules.specs.Dispatch.{early, mount_after, reply_to};
+ghost use Rattle.mount_rules.specs.Files.{FilesAreShort};
+ghost use Rattle.mount_rules.specs.Mount.{IsMount};
 ghost use Rattle.mount_rules.specs.Rules.{AtTake};
+ghost use Rattle.mount_state.specs.Files.{HasBlocks};
 ghost use Rattle.mount_state.specs.Serving.{IsServedAt, Serves};
 ghost use Rattle.mount_state.specs.Spares.{Fills, IsFor, need};
 ghost use Rattle.mount_state.specs.Tables.{mount_of, HasRoom, Uses};
@@ -15,25 +18,30 @@ use fuse_replies::Reply;
 use fuse_requests::Request;
 use io_ports::Row;
 use mount_model::{Config, Observation};
+use plan_files::Asked;
 
 impl Tables {
     /// What a request that observed this is answered, and the tables then.
     pub(crate) fn finish(
         &mut self,
         config: &Config,
+        second: u64,
         request: &Request,
         spare: Spare,
         seen: Row<Observation>,
         base: Base,
     ) -> Reply
+        requires mount { IsMount (mount_of self.old) }
+        requires short { FilesAreShort (mount_of self.old) }
+        requires blocks { HasBlocks self.old config.now }
         requires free { early (mount_of self.old) (without_spare request.now) ≡ None }
         requires spare { IsFor (mount_of self.old) (without_spare request.now) spare }
         requires items { Fills config.now (mount_of self.old) (without_spare request.now) seen.items spare.items }
         requires room { HasRoom (need spare.provided) self.old }
         requires number { self.old.handles.next < 2 ^ 62 }
-        requires base { Serves (mount_of self.old) (without_spare request.now) base }
-        ensures reply { (at : AtTake) → IsServedAt config.now (mount_of self.old) (without_spare request.now) base at → reply_without_spare result ≡ reply_to at (mount_of self.old) (without_spare request.now) seen.items }
-        ensures mount { (at : AtTake) → IsServedAt config.now (mount_of self.old) (without_spare request.now) base at → mount_of self.new ≡ mount_after at (mount_of self.old) (without_spare request.now) seen.items }
+        requires base { Serves config.now (mount_of self.old) (without_spare request.now) base }
+        ensures reply { (at : AtTake) → IsServedAt config.now second (mount_of self.old) (without_spare request.now) base at → reply_without_spare result ≡ reply_to at (mount_of self.old) (without_spare request.now) seen.items }
+        ensures mount { (at : AtTake) → IsServedAt config.now second (mount_of self.old) (without_spare request.now) base at → mount_of self.new ≡ mount_after at (mount_of self.old) (without_spare request.now) seen.items }
         ensures uses { Uses (need spare.provided) self.old self.new }
         ensures sendable { IsSendable (reply_without_spare result) }
     {
@@ -49,7 +57,38 @@ impl Tables {
                 first,
                 size,
                 ..
-            } => self.read(*node, *first, *size, seen.as_slice(), base),
+            } => self.read(*node, *first, *size, prepared, seen.as_slice(), base),
+            Request::Write {
+                node,
+                first,
+                content,
+                ..
+            } => self.write(
+                second,
+                *node,
+                *first,
+                content.as_slice(),
+                seen.as_slice(),
+                &base,
+            ),
+            Request::Setattr {
+                node,
+                valid,
+                size,
+                mtime,
+                nanos,
+            } => {
+                let asked = Asked {
+                    valid: *valid,
+                    size: *size,
+                    seconds: *mtime,
+                    nanos: *nanos,
+                };
+                self.set_attributes(config, second, *node, &asked, seen)
+            }
+            Request::Flush { node, .. } | Request::Fsync { node, .. } => {
+                self.flush(*node, prepared, seen)
+            }
             Request::Release { node, fh } => self.release_file(*node, *fh),
             Request::Opendir { node } => self.open_directory(*node, items, seen),
             Request::Releasedir { fh, .. } => self.release_directory(*fh),

@@ -35,12 +35,25 @@ impl Tables {
         Reply::Silent
     }
 
-    /// Takes look-ups of a node back. A node that has none left is dropped; a file stays while a handle holds it.
+    /// Takes look-ups of a node back. A node that has none left is dropped, and what is staged of it; a file stays while a
+    /// handle holds it.
     fn give_back(&mut self, node: u64, count: u64)
         ensures mount { mount_of self.new ≡ spec.after node count (mount_of self.old) }
         ensures uses { Uses 0 self.old self.new }
     {
         let held = self.handles.held(node);
         self.nodes.forget(node, count, held);
+        self.end_staged(node);
+    }
+
+    /// Lets what is staged of a node go, where the node is there no more.
+    pub(crate) fn end_staged(&mut self, node: u64)
+        ensures mount { mount_of self.new ≡ spec.with_left node self.old.nodes.table (mount_of self.old) }
+        ensures uses { Uses 0 self.old self.new }
+        ensures kept { self.new ≡ record self.old { staging = self.new.staging } }
+    {
+        if self.nodes.get(node).is_none() {
+            self.staging.end(node);
+        }
     }
 }

@@ -5,10 +5,11 @@ ghost use Rattle.mount_rules.specs.Plans.{answers_of, last_moment};
 ghost use Rattle.mount_rules.specs.Requests.Getattr as spec;
 ghost use Rattle.mount_rules.specs.Standing.{gone, generation_seen, standing, table_after};
 ghost use Rattle.mount_rules.specs.View.{sight_at};
-ghost use Rattle.mount_state.specs.Tables.{Uses};
+ghost use Rattle.mount_state.specs.Tables.{mount_of, Uses};
 
 use crate::attributes::attributes;
 use crate::showing::refresh;
+use crate::staged::staged_attr;
 use crate::tables::Tables;
 use fuse_replies::errno::{EIO, ESTALE};
 use fuse_replies::{AttrOut, Reply};
@@ -26,7 +27,7 @@ impl Tables {
         node: u64,
         seen: Row<Observation>,
     ) -> Reply
-        ensures reply { result ≡ spec.reply_to config.now self.old.nodes.table node (last_moment seen.items) (standing (generation_seen (sight_at self.old.nodes.table node)) (answers_of seen.items)) }
+        ensures reply { result ≡ spec.reply_to config.now (mount_of self.old) node (last_moment seen.items) (standing (generation_seen (sight_at self.old.nodes.table node)) (answers_of seen.items)) }
         ensures table { self.new.nodes.table ≡ table_after self.old.nodes.table node (last_moment seen.items) (standing (generation_seen (sight_at self.old.nodes.table node)) (answers_of seen.items)) }
         ensures kept { self.new ≡ record self.old { nodes = self.new.nodes } }
         ensures uses { Uses 0 self.old self.new }
@@ -46,15 +47,15 @@ impl Tables {
     }
 
     /// The attributes of a node with so many names; ESTALE where it isn't there.
-    fn attributes_with(&self, config: &Config, node: u64, nlink: u32) -> Reply
-        ensures reply { result ≡ spec.reply_with config.now self.now.nodes.table node nlink }
+    pub(crate) fn attributes_with(&self, config: &Config, node: u64, nlink: u32) -> Reply
+        ensures reply { result ≡ spec.reply_with config.now self.now.nodes.table self.now.staging.files node nlink }
         ensures no_spare { without_spare result ≡ result }
         ensures sendable { IsSendable result }
     {
         match self.nodes.get(node) {
             Some(inode) => Reply::Attr(AttrOut {
                 nlink,
-                ..attributes(config, node, inode)
+                ..attributes(config, node, inode, staged_attr(&self.staging, node))
             }),
             None => Reply::Error(ESTALE),
         }

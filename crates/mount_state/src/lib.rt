@@ -1,5 +1,5 @@
-//! A mount in tables: what it holds of nodes and handles, why it refuses a request, and what a request that is done is
-//! answered and leaves.
+//! A mount in tables: what it holds of nodes, handles and staged contents, why it refuses a request, and what a request that
+//! is done is answered and leaves.
 #![tactic(auto)]
 
 mod attributes;
@@ -8,9 +8,11 @@ mod create;
 mod entries;
 mod file;
 mod finish;
+mod flush;
 mod forget;
 mod getattr;
 mod init;
+mod limits;
 mod lookup;
 mod mount;
 mod open;
@@ -22,12 +24,16 @@ mod read;
 mod refusals;
 mod release;
 mod releasedir;
+mod setattr;
 mod showing;
 mod spare;
+mod staged;
 mod standing;
 mod tables;
 #[cfg(test)]
 mod tests;
+mod unread;
+mod write;
 
 pub use base::Base;
 pub use file::{File, Kept};

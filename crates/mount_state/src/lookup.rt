@@ -3,10 +3,10 @@ ghost use Rattle.std.specs.Prelude.{◌≡◌, ◌≤◌};
 ghost use Rattle.fuse_replies.specs.Replies.{IsSendable, without_spare};
 ghost use Rattle.mount_rules.specs.Plans.{answers_of, last_moment};
 ghost use Rattle.mount_rules.specs.Requests.Lookup as spec;
-ghost use Rattle.mount_state.specs.Tables.{Uses};
+ghost use Rattle.mount_state.specs.Tables.{mount_of, Uses};
 
 use crate::path::PathTwice;
-use crate::showing::{show, show_directory};
+use crate::showing::show_directory;
 use crate::tables::Tables;
 use fuse_replies::Reply;
 use fuse_replies::errno::{EIO, ENOENT};
@@ -23,7 +23,7 @@ impl Tables {
         seen: Row<Observation>,
     ) -> Reply
         requires spare { 1 ≤ self.old.nodes.spare }
-        ensures reply { without_spare result ≡ spec.reply_to config.now self.old.nodes.table path (last_moment seen.items) (spec.found (answers_of seen.items)) }
+        ensures reply { without_spare result ≡ spec.reply_to config.now (mount_of self.old) path (last_moment seen.items) (spec.found (answers_of seen.items)) }
         ensures table { self.new.nodes.table ≡ spec.table_after self.old.nodes.table path (last_moment seen.items) (spec.found (answers_of seen.items)) }
         ensures kept { self.new ≡ record self.old { nodes = self.new.nodes } }
         ensures uses { Uses 1 self.old self.new }
@@ -37,7 +37,7 @@ impl Tables {
             },
             Found::Object(meta) => {
                 let (name, again) = path.into_paths();
-                Reply::Entry(show(&mut self.nodes, config, name, again, meta, moment))
+                Reply::Entry(self.show(config, name, again, meta, moment))
             },
             Found::Nothing => Reply::Error(ENOENT),
             Found::Fault => Reply::Error(EIO),

@@ -1,14 +1,16 @@
 //! What a request will want at its end, made before it asks anything.
-ghost use Rattle.std.specs.Prelude.{◌≡◌, ◌≢◌, [], None, IfOk, OnErr, drop, option_and_then};
+ghost use Rattle.std.specs.Prelude.{◌≡◌, ◌≢◌, [], None, IfOk, IsSome, OnErr, drop, length, option_and_then};
 ghost use Rattle.std.specs.FinMap as fin;
 ghost use Rattle.std.specs.Option.{option_map_or};
 ghost use Rattle.fuse_requests.specs.Grammar.{without_spare};
 ghost use Rattle.mount_rules.specs.Dispatch.{early, view_in};
 ghost use Rattle.mount_rules.specs.Guards as guards;
 ghost use Rattle.mount_rules.specs.View.{sight_at};
+ghost use Rattle.mount_state.specs.Files.{change_at};
 ghost use Rattle.mount_rules.specs.Requests.Readdir as readdir;
-ghost use Rattle.mount_state.specs.Spares.{entries, nothing, path, provided_by, provided_for};
+ghost use Rattle.mount_state.specs.Spares.{entries, flush_wants, nothing, path, provided_by, provided_for, read_wants, setattr_wants, write_wants};
 ghost use Rattle.mount_state.specs.Tables.{mount_of};
+ghost use Rattle.plan_files.specs.Settings.{asked_of};
 
 use crate::entries::entries_from;
 use crate::path::PathTwice;
@@ -17,6 +19,7 @@ use crate::tables::Tables;
 use fuse_requests::Request;
 use io_ports::NoMemory;
 use object_names::{component_text, strip_suffix};
+use plan_files::{Asked, Change};
 use std::alloc::Global;
 
 impl Tables {
@@ -37,7 +40,32 @@ impl Tables {
                 first,
                 size,
             } => self.entries(alloc, *node, *fh, *first, *size),
-            Request::Opening { .. } | Request::Opendir { .. } => Ok(Prepared::Handle),
+            Request::Opening { .. } | Request::Opendir { .. } => Ok(Prepared::Room),
+            Request::Read {
+                node,
+                first,
+                size,
+                ..
+            } => self.buffer(alloc, *node, *first, *size),
+            Request::Write { content, .. } => Ok(room_to_write(content.as_slice())),
+            Request::Setattr {
+                node,
+                valid,
+                size,
+                mtime,
+                nanos,
+            } => {
+                let asked = Asked {
+                    valid: *valid,
+                    size: *size,
+                    seconds: *mtime,
+                    nanos: *nanos,
+                };
+                Ok(self.room_to_set(*node, &asked))
+            }
+            Request::Flush { node, .. } | Request::Fsync { node, .. } => {
+                self.name_to_flush(alloc, *node)
+            }
             _ => Ok(Prepared::Nothing),
         }
     }
@@ -79,4 +107,59 @@ impl Tables {
         let entries = entries_from(alloc, items.as_slice(), first, size)?;
         Ok(Prepared::Entries(entries))
     }
+    /// A buffer for the bytes of staged content that a READ is answered; nothing where none is staged.
+    fn buffer(&self, alloc: Global, node: u64, first: u64, size: u32) -> Result<Prepared, NoMemory>
+        ensures ok { IfOk result (λ prepared. provided_by prepared ≡ read_wants first size (fin.get self.now.staging.files node)) }
+        ensures full { OnErr result (read_wants first size (fin.get self.now.staging.files node) ≢ nothing) }
+    {
+        let Some(len) = self.staging.len(node) else {
+            return Ok(Prepared::Nothing);
+        };
+        let count = len.saturating_sub(first).min(size as u64);
+        let bytes = zeros(alloc, count as usize)?;
+        Ok(Prepared::Buffer(bytes))
+    }
+
+    /// Room for staged content, where a SETATTR changes a length.
+    fn room_to_set(&self, node: u64, asked: &Asked) -> Prepared
+        ensures { provided_by result ≡ setattr_wants (change_at (mount_of self.now) node (asked_of asked.now)) }
+    {
+        match self.change(node, asked) {
+            Change::Resize => Prepared::Room,
+            _ => Prepared::Nothing,
+        }
+    }
+
+    /// The name under which a flush of staged content makes its node current; nothing where none is staged.
+    fn name_to_flush(&self, alloc: Global, node: u64) -> Result<Prepared, NoMemory>
+        requires there { IsSome (sight_at self.now.nodes.table node) }
+        ensures ok { IfOk result (λ prepared. provided_by prepared ≡ flush_wants (fin.get self.now.staging.files node) (sight_at self.now.nodes.table node)) }
+        ensures full { OnErr result (flush_wants (fin.get self.now.staging.files node) (sight_at self.now.nodes.table node) ≢ nothing) }
+    {
+        let Some(_) = self.staging.len(node) else {
+            return Ok(Prepared::Nothing);
+        };
+        let Some(inode) = self.nodes.get(node) else {
+            unreachable!();
+        };
+        let name = inode.name.copy(alloc)?;
+        Ok(Prepared::Name(name))
+    }
+}
+
+/// Room for staged content, where a WRITE writes any byte.
+fn room_to_write(content: &[u8]) -> Prepared
+    ensures { provided_by result ≡ write_wants content.now }
+{
+    match content {
+        [] => Prepared::Nothing,
+        [_, ..] => Prepared::Room,
+    }
+}
+
+/// So many zeros.
+fn zeros(alloc: Global, count: usize) -> Result<Vec<u8>, NoMemory>
+    ensures { IfOk result (λ bytes. length bytes.items ≡ count) }
+{
+    Ok(vec![in alloc; 0; count]?)
 }

@@ -1,29 +1,64 @@
 //! Why a request is refused before it asks anything.
-ghost use Rattle.std.specs.Prelude.{◌≡◌, Some, None, if◌then◌else◌};
-ghost use Rattle.fuse_replies.specs.Errno.{enotdir, estale};
+ghost use Rattle.std.specs.Prelude.{◌≡◌, Some, None, length, if◌then◌else◌};
+ghost use Rattle.std.specs.FinMap as fin;
+ghost use Rattle.fuse_replies.specs.Errno.{enospc, enotdir, estale};
 ghost use Rattle.fuse_requests.specs.Grammar.{without_spare};
 ghost use Rattle.inode_spec.specs.Inodes as inodes;
+ghost use Rattle.mount_model.specs.declared.config.Config.{Config};
 ghost use Rattle.mount_rules.specs.Dispatch as rules;
+ghost use Rattle.mount_rules.specs.Files.{FilesAreShort};
 ghost use Rattle.mount_rules.specs.Guards as guards;
+ghost use Rattle.mount_rules.specs.Requests.Setattr as setattr;
+ghost use Rattle.mount_rules.specs.Requests.Write as writing;
 ghost use Rattle.mount_rules.specs.Rules.{at_handle};
 ghost use Rattle.mount_rules.specs.View.{Sight, sight_at, view_of};
+ghost use Rattle.mount_state.specs.Files.{HasBlocks};
 ghost use Rattle.mount_state.specs.Tables.{mount_of};
-ghost use Rattle.std.specs.FinMap as fin;
+ghost use Rattle.plan_files.specs.Settings.{asked_of};
 
 use crate::file::File;
+use crate::limits::{not_a_file, setattr_refusal, size_refusal, write_refusal};
 use crate::tables::Tables;
-use fuse_replies::errno::{EBADF, EINVAL, EISDIR, ENAMETOOLONG, ENOSYS, ENOTDIR, EPROTO, ESTALE};
-use fuse_requests::{Request, opcode};
+use crate::unread::{is_init, is_silent, unread};
+use fuse_replies::errno::{EBADF, EINVAL, ENAMETOOLONG, ENOSPC, ENOSYS, ENOTDIR, EPROTO, ESTALE};
+use fuse_requests::Request;
 use inode_table::Inode;
 use object_names::{NameFault, NodeKind, component_text, path_fits, strip_suffix};
+use plan_files::Asked;
 
 /// The number of the root: `FUSE_ROOT_ID` of fuse.h.
 const ROOT: u64 = 1;
 
-/// The most bytes that a READ or READDIR may ask for.
-const LONGEST_READ: u32 = 1_048_576;
-
 impl Tables {
+    /// The error with which a request is refused at its take: what refuses it early, and of a WRITE at last that it touches
+    /// more blocks than are free (ENOSPC).
+    pub(crate) fn refused_at_take(&self, request: &Request) -> Option<u32>
+        requires short { FilesAreShort (mount_of self.now) }
+        ensures { (config : Config) → HasBlocks self.now config → result ≡ rules.refused_at_take config (mount_of self.now) (without_spare request.now) }
+    {
+        match self.early(request) {
+            Some(errno) => Some(errno),
+            None => self.full_refusal(request),
+        }
+    }
+
+    /// The error of a WRITE that nothing else refuses, where it touches more blocks than are free.
+    fn full_refusal(&self, request: &Request) -> Option<u32>
+        requires short { FilesAreShort (mount_of self.now) }
+        requires free { rules.early (mount_of self.now) (without_spare request.now) ≡ None }
+        ensures { (config : Config) → HasBlocks self.now config → result ≡ (if rules.is_full config (mount_of self.now) (without_spare request.now) then Some enospc else None) }
+    {
+        match request {
+            Request::Write {
+                node,
+                first,
+                content,
+                ..
+            } if self.is_full(*node, *first, content.as_slice()) => Some(ENOSPC),
+            _ => None,
+        }
+    }
+
     /// The error with which a request that gets a reply is refused before it asks anything of the bucket: first that no
     /// version is agreed on (EPROTO), then that it isn't served (ENOSYS) or could not be read (EINVAL), then what its own
     /// rules refuse. None where nothing does, and for requests that never get a reply.
@@ -50,7 +85,30 @@ impl Tables {
             Request::Getattr { node } => self.live_refusal(*node),
             Request::Opening { node, .. } => self.file_refusal(*node),
             Request::Read { node, fh, size, .. } => self.read_refusal(*node, *fh, *size),
-            Request::Release { node, fh } => self.open_file_refusal(*node, *fh),
+            Request::Write {
+                node,
+                fh,
+                first,
+                content,
+            } => self.write_refusal(*node, *fh, *first, content.as_slice()),
+            Request::Setattr {
+                node,
+                valid,
+                size,
+                mtime,
+                nanos,
+            } => {
+                let asked = Asked {
+                    valid: *valid,
+                    size: *size,
+                    seconds: *mtime,
+                    nanos: *nanos,
+                };
+                self.setattr_refusal(*node, &asked)
+            }
+            Request::Release { node, fh }
+            | Request::Flush { node, fh }
+            | Request::Fsync { node, fh } => self.open_file_refusal(*node, *fh),
             Request::Readdir { node, fh, size, .. } => self.readdir_refusal(*node, *fh, *size),
             Request::Releasedir { node, fh } | Request::Fsyncdir { node, fh } => {
                 self.handle_refusal(*node, *fh)
@@ -139,6 +197,26 @@ impl Tables {
         }
     }
 
+    /// The error of a WRITE: that of its handle, or that it asks for too much.
+    fn write_refusal(&self, node: u64, fh: u64, first: u64, content: &[u8]) -> Option<u32>
+        ensures { result ≡ guards.on_open_file node (view_of (mount_of self.now) (at_handle node fh)) (λ file. writing.limits_refusal first (length content.now)) }
+    {
+        match self.open_file_refusal(node, fh) {
+            Some(errno) => Some(errno),
+            None => write_refusal(first, content),
+        }
+    }
+
+    /// The error of a SETATTR: that the node isn't live, or that it asks for too much.
+    fn setattr_refusal(&self, node: u64, asked: &Asked) -> Option<u32>
+        ensures { result ≡ guards.on_live (sight_at self.now.nodes.table node) (λ sight. setattr.kind_refusal (asked_of asked.now) sight.kind) }
+    {
+        match self.nodes.get(node) {
+            Some(inode) if is_live(node, inode) => setattr_refusal(asked, inode.kind),
+            _ => Some(ESTALE),
+        }
+    }
+
     /// The error of a READDIR: that of its handle, or that it asks for too many bytes.
     fn readdir_refusal(&self, node: u64, fh: u64, size: u32) -> Option<u32>
         ensures { result ≡ guards.on_open_directory node (fin.get self.now.handles.handles fh) (λ entries. guards.size_refusal size) }
@@ -150,18 +228,8 @@ impl Tables {
     }
 }
 
-/// The error of a READ or READDIR that asks for too many bytes.
-fn size_refusal(size: u32) -> Option<u32>
-    ensures { result ≡ guards.size_refusal size }
-{
-    if size <= LONGEST_READ {
-        return None;
-    }
-    Some(EINVAL)
-}
-
 /// Whether a node that is there is live: the root is, and every other one that has look-ups.
-fn is_live(node: u64, inode: &Inode<File>) -> bool
+pub(crate) fn is_live(node: u64, inode: &Inode<File>) -> bool
     ensures { result ≡ inodes.is_live node inode.now }
 {
     node == ROOT || inode.lookups > 0
@@ -174,17 +242,6 @@ fn is_directory(kind: NodeKind) -> bool
     match kind {
         NodeKind::Dir => true,
         _ => false,
-    }
-}
-
-/// The error of a kind of node that isn't read and written as a file.
-fn not_a_file(kind: NodeKind) -> Option<u32>
-    ensures { result ≡ guards.on_file kind None }
-{
-    match kind {
-        NodeKind::Dir => Some(EISDIR),
-        NodeKind::Symlink => Some(EINVAL),
-        NodeKind::File => None,
     }
 }
 
@@ -211,71 +268,4 @@ fn part_refusal(part: &[u8], prefix: &str) -> Option<u32>
         Ok(part) if path_fits(prefix, part) => None,
         Ok(_) => Some(ENAMETOOLONG),
     }
-}
-
-/// Whether the request never gets a reply: FORGET, BATCH_FORGET and INTERRUPT, also where their bodies could not be read.
-pub(crate) fn is_silent(request: &Request) -> bool
-    ensures { result ≡ rules.is_silent (without_spare request.now) }
-{
-    match request {
-        Request::Forget { .. } | Request::BatchForget { .. } | Request::Interrupt => true,
-        Request::Unknown { opcode } => is_silent_opcode(*opcode),
-        _ => false,
-    }
-}
-
-/// Whether the request is INIT, also where its body could not be read.
-fn is_init(request: &Request) -> bool
-    ensures { result ≡ rules.is_init (without_spare request.now) }
-{
-    match request {
-        Request::Init { .. } => true,
-        Request::Unknown { opcode } => *opcode == opcode::INIT,
-        _ => false,
-    }
-}
-
-/// Whether requests of this opcode never get a reply.
-fn is_silent_opcode(opcode: u32) -> bool
-    ensures { result ≡ rules.is_among rules.silent_opcodes opcode }
-{
-    matches!(
-        opcode,
-        opcode::FORGET | opcode::INTERRUPT | opcode::BATCH_FORGET
-    )
-}
-
-/// Whether requests of this opcode are served, and get a reply.
-fn is_served_opcode(opcode: u32) -> bool
-    ensures { result ≡ rules.is_among rules.served_opcodes opcode }
-{
-    matches!(
-        opcode,
-        opcode::LOOKUP
-            | opcode::GETATTR
-            | opcode::OPEN
-            | opcode::READ
-            | opcode::STATFS
-            | opcode::RELEASE
-            | opcode::INIT
-            | opcode::OPENDIR
-            | opcode::READDIR
-            | opcode::RELEASEDIR
-            | opcode::FSYNCDIR
-            | opcode::CREATE
-            | opcode::DESTROY
-    )
-}
-
-/// The error of a request that could not be read: a served one has a body outside the grammar, and another's is unread.
-fn unread(opcode: u32) -> Option<u32>
-    ensures { result ≡ rules.unread opcode }
-{
-    if is_silent_opcode(opcode) {
-        return None;
-    }
-    if is_served_opcode(opcode) {
-        return Some(EINVAL);
-    }
-    Some(ENOSYS)
 }

@@ -1,16 +1,22 @@
 //! Requests that are performed on a mount. What is expected comes from outside: errno numbers of Linux, modes of `stat`,
-//! and lengths and types of directory entries as fuse.h and dirent.h have them.
-ghost use Rattle.std.specs.Prelude.{◌≡◌, [], None};
+//! bits of `struct fuse_setattr_in`, and lengths and types of directory entries as fuse.h and dirent.h have them.
+ghost use Rattle.std.specs.Prelude.{◌≡◌, [], None, IfOk, codes};
 ghost use Rattle.fuse_requests.specs.Grammar.{without_spare};
 ghost use Rattle.mount_model.specs.declared.config.Config.{Config};
-ghost use Rattle.mount_rules.specs.Dispatch.{wants};
-ghost use Rattle.mount_rules.specs.Mount.{MountModel};
+ghost use Rattle.mount_rules.specs.Dispatch.{mount_after, wants};
+ghost use Rattle.mount_rules.specs.Files.{FilesAreShort};
+ghost use Rattle.mount_rules.specs.Making as making;
+ghost use Rattle.mount_rules.specs.Mount.{IsMount, MountModel};
+ghost use Rattle.mount_rules.specs.Plans.{answers_of};
+ghost use Rattle.mount_rules.specs.Requests.Lookup as lookup;
+ghost use Rattle.mount_rules.specs.Rules.{AtTake};
 ghost use Rattle.mount_state.specs.Spares.{Fills};
 
+use crate::attributes::time_of_object;
 use crate::entries::entries_from;
 use crate::{Base, Mount};
-use bucket_api::{Answer, Meta, Op};
-use fuse_replies::Reply;
+use bucket_api::{Answer, Meta, Op, Pair};
+use fuse_replies::{AttrOut, Reply};
 use fuse_requests::Request;
 use io_ports::{Bytes, NoMemory, Row, Text};
 use mount_model::{Config, Observation};
@@ -19,32 +25,48 @@ use std::alloc::Global;
 use std::process::Abort;
 use std::test::Fail;
 
-/// What a reply shows of a node: its number, size and mode. Where the request failed, the errno in place of the mode.
+/// The second of each request.
+const NOW: u64 = 40;
+
+/// What a reply shows of a node: its number, size, mode and time. Where the request failed, the errno in place of the mode.
 #[derive(Clone, Copy, Debug, PartialEq, Eq)]
 struct Outcome {
     node: u64,
     size: u64,
     mode: u32,
+    time: (u64, u32),
 }
 
-/// A regular file of 5 bytes.
+/// A regular file of 5 bytes, which was changed at second 7.
 fn file(node: u64) -> Outcome {
+    changed(node, 5, (7, 0))
+}
+
+/// A regular file of this size and time.
+fn changed(node: u64, size: u64, time: (u64, u32)) -> Outcome {
     Outcome {
         node,
-        size: 5,
+        size,
         mode: 0o100644,
+        time,
     }
 }
 
 fn told(reply: &Reply) -> Outcome {
     match reply {
-        Reply::Entry(entry) | Reply::Created { entry, .. } => Outcome {
-            node: entry.node,
-            size: entry.attr.size,
-            mode: entry.attr.mode,
-        },
+        Reply::Entry(entry) | Reply::Created { entry, .. } => shows(&entry.attr),
+        Reply::Attr(attr) => shows(attr),
         Reply::Error(errno) => failed(*errno),
         _ => failed(0),
+    }
+}
+
+fn shows(attr: &AttrOut) -> Outcome {
+    Outcome {
+        node: attr.ino,
+        size: attr.size,
+        mode: attr.mode,
+        time: (attr.mtime, attr.nanos),
     }
 }
 
@@ -53,6 +75,7 @@ fn failed(errno: u32) -> Outcome {
         node: 0,
         size: 0,
         mode: errno,
+        time: (0, 0),
     }
 }
 
@@ -63,19 +86,33 @@ fn perform(
     request: &Request,
     seen: Row<Observation>,
 ) -> Result<Outcome, NoMemory>
+    requires short { FilesAreShort mount.old.mount }
     requires items { (config : Config) (held : MountModel) → Fills config held (without_spare request.now) seen.items [] }
-    requires quiet { (held : MountModel) → wants held (without_spare request.now) ≡ None }
+    requires quiet { (config : Config) (held : MountModel) → wants config held (without_spare request.now) ≡ None }
+    requires stays { (at : AtTake) (held : MountModel) → IsMount held → FilesAreShort held → FilesAreShort (mount_after at held (without_spare request.now) seen.items) }
+    ensures short { FilesAreShort mount.new.mount }
 {
     if let Some(errno) = mount.early(request) {
         return Ok(failed(errno));
     }
     let spare = mount.prepare(alloc, request)?;
-    let reply = mount.finish(request, spare, seen, Base::empty(alloc));
+    let reply = mount.finish(NOW, request, spare, seen, Base::empty(alloc));
     Ok(told(&reply))
 }
 
+/// A mount before its first request, which has no file.
+fn new_mount(alloc: Global) -> Result<Mount, NoMemory>
+    ensures { IfOk result (λ mount. FilesAreShort mount.mount) }
+{
+    let mount = Mount::new(alloc, &Config::new())?;
+    Ok(mount)
+}
+
 /// Agrees on 7.31.
-fn agree(mount: &mut Mount, alloc: Global) -> Result<Outcome, NoMemory> {
+fn agree(mount: &mut Mount, alloc: Global) -> Result<Outcome, NoMemory>
+    requires short { FilesAreShort mount.old.mount }
+    ensures short { FilesAreShort mount.new.mount }
+{
     let request = Request::Init {
         major: 7,
         minor: 31,
@@ -86,7 +123,9 @@ fn agree(mount: &mut Mount, alloc: Global) -> Result<Outcome, NoMemory> {
 }
 
 /// That the bucket told of an object `foo` of 5 bytes.
-fn object(alloc: Global, generation: u64) -> Result<Answer, NoMemory> {
+fn object(alloc: Global, generation: u64) -> Result<Answer, NoMemory>
+    ensures { IfOk result (λ answer. answer ≡ Answer.Meta (record { name = codes "foo"; generation = generation; metageneration = 1; size = 5; updated = 7; pairs = [] })) }
+{
     let name = Text::of(alloc, "foo")?;
     Ok(Answer::Meta(Meta {
         name,
@@ -99,7 +138,9 @@ fn object(alloc: Global, generation: u64) -> Result<Answer, NoMemory> {
 }
 
 /// That an operation on `foo` was answered so.
-fn observed(alloc: Global, moment: u64, answer: Answer) -> Result<Observation, NoMemory> {
+fn observed(alloc: Global, moment: u64, answer: Answer) -> Result<Observation, NoMemory>
+    ensures { IfOk result (λ observation. observation.answer ≡ answer) }
+{
     let name = Text::of(alloc, "foo")?;
     Ok(Observation {
         op: Op::Stat { name },
@@ -109,13 +150,17 @@ fn observed(alloc: Global, moment: u64, answer: Answer) -> Result<Observation, N
 }
 
 /// That this generation of `foo` was shown.
-fn shown(alloc: Global, generation: u64, moment: u64) -> Result<Observation, NoMemory> {
+fn shown(alloc: Global, generation: u64, moment: u64) -> Result<Observation, NoMemory>
+    ensures { IfOk result (λ observation. observation.answer ≡ Answer.Meta (record { name = codes "foo"; generation = generation; metageneration = 1; size = 5; updated = 7; pairs = [] })) }
+{
     let answer = object(alloc, generation)?;
     observed(alloc, moment, answer)
 }
 
 /// That no directory was found, and then this generation of `foo` was shown.
-fn found(alloc: Global, generation: u64, moment: u64) -> Result<Row<Observation>, NoMemory> {
+fn found(alloc: Global, generation: u64, moment: u64) -> Result<Row<Observation>, NoMemory>
+    ensures { IfOk result (λ seen. lookup.found (answers_of seen.items) ≡ lookup.object (record { name = codes "foo"; generation = generation; metageneration = 1; size = 5; updated = 7; pairs = [] })) }
+{
     let probe = observed(alloc, moment, Answer::NotFound)?;
     let stat = shown(alloc, generation, moment)?;
     let mut seen = Row::new(alloc);
@@ -131,7 +176,10 @@ fn look_up(
     alloc: Global,
     generation: u64,
     moment: u64,
-) -> Result<Outcome, NoMemory> {
+) -> Result<Outcome, NoMemory>
+    requires short { FilesAreShort mount.old.mount }
+    ensures short { FilesAreShort mount.new.mount }
+{
     let seen = found(alloc, generation, moment)?;
     let name = Bytes::of(alloc, b"foo")?;
     let request = Request::Lookup { node: 1, name };
@@ -139,7 +187,10 @@ fn look_up(
 }
 
 /// A LOOKUP is prepared, and its spare given back.
-fn prepare_in_vain(mount: &mut Mount, alloc: Global) -> Result<(), NoMemory> {
+fn prepare_in_vain(mount: &mut Mount, alloc: Global) -> Result<(), NoMemory>
+    requires short { FilesAreShort mount.old.mount }
+    ensures short { FilesAreShort mount.new.mount }
+{
     let name = Bytes::of(alloc, b"foo")?;
     let request = Request::Lookup { node: 1, name };
     if mount.early(&request).is_some() {
@@ -154,7 +205,9 @@ fn prepare_in_vain(mount: &mut Mount, alloc: Global) -> Result<(), NoMemory> {
     }
 }
 
-fn node_stays<R: Abort + AllocGlobal>(mount: &mut Mount, rt: &R) -> Result<(), NoMemory> {
+fn node_stays<R: Abort + AllocGlobal>(mount: &mut Mount, rt: &R) -> Result<(), NoMemory>
+    requires { FilesAreShort mount.old.mount }
+{
     agree(mount, rt.alloc())?;
     prepare_in_vain(mount, rt.alloc())?;
     assert_eq!(rt; look_up(mount, rt.alloc(), 1, 2)?, file(2));
@@ -166,29 +219,45 @@ fn node_stays<R: Abort + AllocGlobal>(mount: &mut Mount, rt: &R) -> Result<(), N
 
 #[test]
 fn a_node_stays_while_its_generation_is_shown(rt: HostRuntime) -> Result<(), Fail> {
-    let mut mount = Mount::new(rt.alloc(), &Config::new())?;
+    let mut mount = new_mount(rt.alloc())?;
     node_stays(&mut mount, &rt)?;
     Ok(())
 }
 
-/// CREATE of `foo` in the root.
-fn create(mount: &mut Mount, alloc: Global) -> Result<Outcome, NoMemory> {
+/// That `foo` was made.
+fn made(alloc: Global) -> Result<Row<Observation>, NoMemory>
+    ensures { IfOk result (λ seen. making.made (answers_of seen.items) ≡ making.new (record { name = codes "foo"; generation = 1; metageneration = 1; size = 5; updated = 7; pairs = [] })) }
+{
     let insert = shown(alloc, 1, 1)?;
     let mut seen = Row::new(alloc);
     seen.reserve(1)?;
     seen.push(insert);
+    Ok(seen)
+}
+
+/// CREATE of `foo` in the root.
+fn create(mount: &mut Mount, alloc: Global) -> Result<Outcome, NoMemory>
+    requires short { FilesAreShort mount.old.mount }
+    ensures short { FilesAreShort mount.new.mount }
+{
+    let seen = made(alloc)?;
     let name = Bytes::of(alloc, b"foo")?;
     let request = Request::Create { node: 1, name };
     perform(mount, alloc, &request, seen)
 }
 
 /// FORGET of a node.
-fn forget(mount: &mut Mount, alloc: Global, node: u64) -> Result<Outcome, NoMemory> {
+fn forget(mount: &mut Mount, alloc: Global, node: u64) -> Result<Outcome, NoMemory>
+    requires short { FilesAreShort mount.old.mount }
+    ensures short { FilesAreShort mount.new.mount }
+{
     let request = Request::Forget { node, count: 1 };
     perform(mount, alloc, &request, Row::new(alloc))
 }
 
-fn file_stays<R: Abort + AllocGlobal>(mount: &mut Mount, rt: &R) -> Result<(), NoMemory> {
+fn file_stays<R: Abort + AllocGlobal>(mount: &mut Mount, rt: &R) -> Result<(), NoMemory>
+    requires { FilesAreShort mount.old.mount }
+{
     agree(mount, rt.alloc())?;
     assert_eq!(rt; create(mount, rt.alloc())?, file(2));
     forget(mount, rt.alloc(), 2)?;
@@ -199,19 +268,109 @@ fn file_stays<R: Abort + AllocGlobal>(mount: &mut Mount, rt: &R) -> Result<(), N
 
 #[test]
 fn a_new_file_stays_while_it_is_open(rt: HostRuntime) -> Result<(), Fail> {
-    let mut mount = Mount::new(rt.alloc(), &Config::new())?;
+    let mut mount = new_mount(rt.alloc())?;
     file_stays(&mut mount, &rt)?;
     Ok(())
 }
 
+/// A SETATTR: which of its fields are valid, a length, and a time in seconds and nanoseconds; and what it is answered.
+type Setting = (u32, u64, (u64, u32), Outcome);
+
+/// One after the other, of a file of five bytes that was changed at second 7. FATTR_SIZE is 8, FATTR_MTIME 32 and
+/// FATTR_MTIME_NOW 256. 16,777,217 bytes are too many (EFBIG), and so are a thousand million nanoseconds (EINVAL).
+fn settings() -> [Setting; 9] {
+    [
+        (8, 3, (0, 0), changed(2, 3, (NOW, 0))),
+        (32, 0, (5, 7), changed(2, 3, (5, 7))),
+        (32 | 256, 0, (5, 7), changed(2, 3, (NOW, 0))),
+        (8 | 32, 65_537, (6, 8), changed(2, 65_537, (6, 8))),
+        (0, 1, (1, 1), changed(2, 65_537, (6, 8))),
+        (8, 16_777_217, (0, 0), failed(27)),
+        (32, 0, (5, 1_000_000_000), failed(22)),
+        (8, 0, (0, 0), changed(2, 0, (NOW, 0))),
+        (8, 16_777_216, (0, 0), changed(2, 16_777_216, (NOW, 0))),
+    ]
+}
+
+/// What is answered to a SETATTR of node 2 which asks nothing.
+fn set(mount: &mut Mount, alloc: Global, setting: &Setting) -> Result<Outcome, NoMemory>
+    requires short { FilesAreShort mount.old.mount }
+    ensures short { FilesAreShort mount.new.mount }
+{
+    let request = Request::Setattr {
+        node: 2,
+        valid: setting.0,
+        size: setting.1,
+        mtime: setting.2.0,
+        nanos: setting.2.1,
+    };
+    perform(mount, alloc, &request, Row::new(alloc))
+}
+
+fn sizes_and_times_are_set<R: Abort + AllocGlobal>(
+    mount: &mut Mount,
+    rt: &R,
+) -> Result<(), NoMemory>
+    requires { FilesAreShort mount.old.mount }
+{
+    agree(mount, rt.alloc())?;
+    assert_eq!(rt; create(mount, rt.alloc())?, file(2));
+    for setting in &settings() {
+        assert_eq!(rt; set(mount, rt.alloc(), setting)?, setting.3);
+    }
+    assert_eq!(rt; mount.staging().len(2), Some(16_777_216));
+    Ok(())
+}
+
+#[test]
+fn a_length_and_a_time_are_staged(rt: HostRuntime) -> Result<(), Fail> {
+    let mut mount = new_mount(rt.alloc())?;
+    sizes_and_times_are_set(&mut mount, &rt)?;
+    Ok(())
+}
+
+/// An object that was changed at second 7, with this time set.
+fn timed(alloc: Global, time: &str) -> Result<Meta, NoMemory> {
+    let pair = Pair {
+        key: Text::of(alloc, "gcsfuse_mtime")?,
+        value: Text::of(alloc, time)?,
+    };
+    let mut pairs = Row::new(alloc);
+    pairs.reserve(1)?;
+    pairs.push(pair);
+    Ok(Meta {
+        name: Text::of(alloc, "foo")?,
+        generation: 1,
+        metageneration: 1,
+        size: 5,
+        updated: 7,
+        pairs,
+    })
+}
+
+#[test]
+fn a_time_that_was_set_is_shown_where_it_can_be_read(rt: HostRuntime) -> Result<(), Fail> {
+    let set = timed(rt.alloc(), "1970-01-01T00:00:05.000000007Z")?;
+    assert_eq!(rt; time_of_object(&set), (5, 7));
+    let ahead = timed(rt.alloc(), "1970-01-01T01:00:01+01:00")?;
+    assert_eq!(rt; time_of_object(&ahead), (1, 0));
+    let unreadable = timed(rt.alloc(), "yesterday")?;
+    assert_eq!(rt; time_of_object(&unreadable), (7, 0));
+    Ok(())
+}
+
 /// Why LOOKUP of a name in a node is refused.
-fn refused(mount: &Mount, alloc: Global, node: u64, name: &[u8]) -> Result<Option<u32>, NoMemory> {
+fn refused(mount: &Mount, alloc: Global, node: u64, name: &[u8]) -> Result<Option<u32>, NoMemory>
+    requires { FilesAreShort mount.now.mount }
+{
     let name = Bytes::of(alloc, name)?;
     Ok(mount.early(&Request::Lookup { node, name }))
 }
 
 /// Why LOOKUP of a name of 256 bytes is refused.
-fn refused_long(mount: &Mount, alloc: Global) -> Result<Option<u32>, NoMemory> {
+fn refused_long(mount: &Mount, alloc: Global) -> Result<Option<u32>, NoMemory>
+    requires { FilesAreShort mount.now.mount }
+{
     let mut name = Vec::new(alloc);
     for _ in 0..256 {
         name.push(b'a')?;
@@ -219,7 +378,9 @@ fn refused_long(mount: &Mount, alloc: Global) -> Result<Option<u32>, NoMemory> {
     refused(mount, alloc, 1, name.as_slice())
 }
 
-fn requests_are_judged<R: Abort + AllocGlobal>(mount: &mut Mount, rt: &R) -> Result<(), NoMemory> {
+fn requests_are_judged<R: Abort + AllocGlobal>(mount: &mut Mount, rt: &R) -> Result<(), NoMemory>
+    requires { FilesAreShort mount.old.mount }
+{
     assert_eq!(rt; refused(mount, rt.alloc(), 1, b"foo")?, Some(71));
     agree(mount, rt.alloc())?;
     assert_eq!(rt; refused(mount, rt.alloc(), 1, b"foo\n")?, None);
@@ -234,7 +395,7 @@ fn requests_are_judged<R: Abort + AllocGlobal>(mount: &mut Mount, rt: &R) -> Res
 
 #[test]
 fn requests_are_refused(rt: HostRuntime) -> Result<(), Fail> {
-    let mut mount = Mount::new(rt.alloc(), &Config::new())?;
+    let mut mount = new_mount(rt.alloc())?;
     requests_are_judged(&mut mount, &rt)?;
     Ok(())
 }

@@ -1,9 +1,13 @@
--- A READDIR is answered no more bytes than it asked for, an OPENDIR opens what was filled in, and a READ asks for not too
--- many bytes.
-use Rattle.std.proofs.Common.{sym, ap, ◌∙◌}
+-- A READDIR is answered no more bytes than it asked for, a READ asks for not too many, and a WRITE goes by its own rules.
+use Rattle.std.proofs.Common.{◌≡◌, None, sym, ap, subst, ◌∙◌}
 use Rattle.fuse_requests.specs.Grammar.{without_spare}
+use Rattle.fuse_requests.specs.declared.request.Request.{Request}
+use Rattle.fuse_requests.specs.declared.request.Request.TheVariants.{Write}
+use Rattle.mount_rules.specs.Dispatch.{early, mount_after, reply_to}
+use Rattle.mount_state.specs.Serving.{IsServedAt}
 use Rattle.mount_state.specs.Spares.{SpareState}
 use Rattle.mount_state.specs.Tables.{mount_of}
+use Rattle.mount_state.proofs.DoneLaws.{write_leaves, write_replies}
 use Rattle.mount_state.proofs.EntryLaws.{sendable_entries}
 use Rattle.mount_state.proofs.QuietLaws.{HasNoEnd, stays_quiet}
 use Rattle.mount_state.proofs.ReadLaws.{read_within}
@@ -20,16 +24,47 @@ read-requires-clause-short c =
     read_within (mount_of c.args.self.now) (without_spare c.args.request.now) c.in-Read.node c.in-Read.fh c.in-Read.first c.in-Read.size
     (ap without_spare c.in-Read.is) c.requires.free
 
+pub returns-in-Write-clause-reply : goal.returns-in-Write-clause-reply
+returns-in-Write-clause-reply c = λ at served.
+    let mount = mount_of c.args.self.now in
+    let content = c.as_slice-in-Write.result.now in
+    let seen = c.as_slice-in-Write-2.result.now in
+    let same : without_spare c.args.request.now ≡ Write c.in-Write.node c.in-Write.fh c.in-Write.first content =
+    ap without_spare c.in-Write.is ∙ ap (Write c.in-Write.node c.in-Write.fh c.in-Write.first) (sym c.as_slice-in-Write.ensures.bytes) in
+    c.write.ensures.no_spare
+    ∙ write_replies mount c.in-Write.node c.in-Write.fh c.in-Write.first content (subst (λ (r : Request). early mount r ≡ None) same c.requires.free)
+    at c.args.config.now c.args.second c.args.self.now.staging.blocks c.args.base seen
+    (subst (λ (r : Request). IsServedAt c.args.config.now c.args.second mount r c.args.base at) same served) c.requires.blocks c.write.result c.write.ensures.reply
+    ∙ ap (λ (r : Request). reply_to at mount r seen) (sym same)
+    ∙ ap (reply_to at mount (without_spare c.args.request.now)) c.as_slice-in-Write-2.ensures.items
+
+pub returns-in-Write-clause-mount : goal.returns-in-Write-clause-mount
+returns-in-Write-clause-mount c = λ at served.
+    let mount = mount_of c.args.self.now in
+    let content = c.as_slice-in-Write.result.now in
+    let seen = c.as_slice-in-Write-2.result.now in
+    let same : without_spare c.args.request.now ≡ Write c.in-Write.node c.in-Write.fh c.in-Write.first content =
+    ap without_spare c.in-Write.is ∙ ap (Write c.in-Write.node c.in-Write.fh c.in-Write.first) (sym c.as_slice-in-Write.ensures.bytes) in
+    write_leaves mount c.in-Write.node c.in-Write.fh c.in-Write.first content (subst (λ (r : Request). early mount r ≡ None) same c.requires.free)
+    at c.args.config.now c.args.second c.args.self.now.staging.blocks c.args.base seen
+    (subst (λ (r : Request). IsServedAt c.args.config.now c.args.second mount r c.args.base at) same served) c.requires.blocks (mount_of c.write.new.self) c.write.ensures.mount
+    ∙ ap (λ (r : Request). mount_after at mount r seen) (sym same)
+    ∙ ap (mount_after at mount (without_spare c.args.request.now)) c.as_slice-in-Write-2.ensures.items
+
 -- a request without an end of its own
 other : (c : In_default) → HasNoEnd c.args.request.now
 other c = record {
   lookup = c.in_default.not-Lookup;
   forget = c.in_default.not-Forget;
   getattr = c.in_default.not-Getattr;
+  setattr = c.in_default.not-Setattr;
   opening = c.in_default.not-Opening;
   read = c.in_default.not-Read;
+  write = c.in_default.not-Write;
   statfs = c.in_default.not-Statfs;
   release = c.in_default.not-Release;
+  fsync = c.in_default.not-Fsync;
+  flush = c.in_default.not-Flush;
   init = c.in_default.not-Init;
   opendir = c.in_default.not-Opendir;
   readdir = c.in_default.not-Readdir;
