@@ -1,59 +1,81 @@
--- What was read of a source is what is wanted of it.
-use Rattle.std.proofs.Common.{◌≡◌, ℕ, List, [], Option, Some, None, length, take, drop, unwrap_or, sym, ap, subst, ◌∙◌, arith}
+-- The bytes that are wanted of a source are there while it is live, and what was read of them is what is wanted.
+use Rattle.std.proofs.Common.{◌≡◌, ◌≤◌, ◌+◌, ◌<◌, ℕ, Bool, true, false, List, [], Option, Some, None, length, take, drop, unwrap_or, nat_lt, refl, sym, ap, subst, ◌∙◌, arith}
+use Rattle.std.proofs.lemmas.Bool.Decides.{nat_tests}
 use Rattle.std.proofs.lemmas.List.{length-drop, length-take-le}
 use Rattle.std.specs.FinMap as fin
+use Rattle.std.specs.Prelude.{if◌then◌else◌}
 use Rattle.bucket_api.proofs.ContentLaws.{content_of-live}
 use Rattle.bucket_api.specs.BucketState.{BucketState, object_of}
 use Rattle.bucket_api.specs.Log.{content_of}
+use Rattle.bucket_api.specs.declared.objects.Object.{Object}
 use Rattle.fuse_requests.specs.declared.request.Request.{Request}
-use Rattle.mount_core.specs.Bases.{HasRead, IsRead}
+use Rattle.mount_core.specs.Bases.{HasBytes, HasRead, HoldsBase, IsRead}
 use Rattle.mount_core.specs.Serials.{CameTo, SerialState}
 use Rattle.mount_laws.proofs.RequestLaws.{wants_of_files}
+use Rattle.mount_model.specs.declared.config.Config.{Config}
 use Rattle.mount_rules.specs.Dispatch.{wants}
 use Rattle.mount_rules.specs.Laws.{IsOfFile}
-use Rattle.mount_rules.specs.Mount.{MountModel}
+use Rattle.mount_rules.specs.Mount.{IsMount, MountModel}
 use Rattle.mount_rules.specs.OneThread.{RunState, contents_of}
-use Rattle.mount_rules.specs.Plans.{CoversWanted, HoldsWanted, Wanted}
+use Rattle.mount_rules.specs.Plans.{Contents, CoversWanted, HoldsWanted, Wanted}
+use Rattle.mount_rules.specs.Reading.{wanting}
 use Rattle.mount_state.specs.declared.base.Base.{Base}
+use Rattle.staging_spec.specs.Slices.{Covers, Holds}
+use Rattle.staging_spec.specs.Wanted.{Range}
 
-module _ (before : SerialState) (request : Request) (wanted : Wanted) (wanting : wants before.mount request ≡ Some wanted) (base : Base) (is : IsRead before.store.bucket wanted base) (run : RunState) (came : CameTo run before) where
-  -- what was read is the content of the generation
-  known : content_of run.store.start run.store.log wanted.name wanted.generation ≡ Some is.object.content
-  known = content_of-live run.store.start run.store.log (length run.store.log) wanted.name wanted.generation is.object came.store.start came.store.allowed
-      (subst (λ (b : BucketState). object_of b wanted.name wanted.generation ≡ Some is.object) came.store.bucket is.is_live)
+-- ---- what was read
+-- all bytes that are wanted were read
+read_len : (bucket : BucketState) (wanted : Wanted) (base : Base) → HasBytes bucket (Some wanted) → IsRead bucket wanted base → length base.bytes ≡ wanted.range.count
+read_len bucket wanted base has is =
+    ap length is.bytes ∙ length-take-le wanted.range.count (drop wanted.range.first is.object.content)
+    (let l = length-drop wanted.range.first is.object.content in let inside = has is.object is.is_live in omega (arith, l, inside))
 
-  of_file : IsOfFile before.mount wanted
-  of_file = wants_of_files before.mount request wanted wanting
+-- where nothing is wanted nothing was read
+pub holds_base : (contents : Contents) (bucket : BucketState) (found : Option Wanted) (base : Base) → HasRead bucket found base → HoldsWanted contents found base.first base.bytes → HoldsBase contents found base
+holds_base contents bucket None base read holds = read
+holds_base contents bucket (Some wanted) base read holds = holds
 
-  sized : length is.object.content ≡ of_file.file.size
-  sized =
+-- ---- what a run makes of that
+module _ (config : Config) (before : SerialState) (request : Request) (is : IsMount before.mount) (run : RunState) (came : CameTo run before) where
+  -- a live object of the generation that is wanted has its content
+  known : (wanted : Wanted) (o : Object) → object_of before.store.bucket wanted.name wanted.generation ≡ Some o
+      → content_of run.store.start run.store.log wanted.name wanted.generation ≡ Some o.content
+  known wanted o live = content_of-live run.store.start run.store.log (length run.store.log) wanted.name wanted.generation o came.store.start came.store.allowed
+      (subst (λ (b : BucketState). object_of b wanted.name wanted.generation ≡ Some o) came.store.bucket live)
+
+  -- it is as long as the file is
+  sized : (wanted : Wanted) → wants config before.mount request ≡ Some wanted → (o : Object) → object_of before.store.bucket wanted.name wanted.generation ≡ Some o
+      → wanted.range.first + wanted.range.count ≤ length o.content
+  sized wanted wanting_ o live =
+      let of_file : IsOfFile before.mount wanted = wants_of_files config before.mount request wanted is wanting_ in
       let shown = came.files of_file.number of_file.node of_file.file (subst (λ (m : MountModel). fin.get m.table.nodes of_file.number ≡ Some of_file.node) came.mount of_file.there) of_file.is_file in
-      let same : Some is.object.content ≡ Some shown.0 =
-      sym known ∙ ap (λ n. content_of run.store.start run.store.log n wanted.generation) of_file.named
+      let same : Some o.content ≡ Some shown.0 =
+      sym (known wanted o live) ∙ ap (λ n. content_of run.store.start run.store.log n wanted.generation) of_file.named
       ∙ ap (content_of run.store.start run.store.log of_file.node.name) of_file.shown ∙ shown.1 in
-      ap length (let one : is.object.content ≡ shown.0 = cc in one) ∙ shown.2
+      let long : length o.content ≡ of_file.file.size = ap length (let one : o.content ≡ shown.0 = cc in one) ∙ shown.2 in
+      let inside = of_file.inside in
+      omega (arith, long, inside)
 
-  read_len : length base.bytes ≡ wanted.range.count
-  read_len =
-      ap length is.bytes ∙ length-take-le wanted.range.count (drop wanted.range.first is.object.content)
-      (let l = length-drop wanted.range.first is.object.content in let s = sized in let i = of_file.inside in omega (arith, l, s, i))
+  pub has_bytes : (found : Option Wanted) → wants config before.mount request ≡ found → HasBytes before.store.bucket found
+  has_bytes None wanting_ = tt
+  has_bytes (Some wanted) wanting_ = λ o live. sized wanted wanting_ o live
 
-  pub covers_read : CoversWanted (Some wanted) base.first (length base.bytes)
-  covers_read = λ some. let f = is.first in let l = read_len in (omega (arith, f), omega (arith, f, l))
+  pub holds_all : (found : Option Wanted) → wants config before.mount request ≡ found → (base : Base) → HasRead before.store.bucket found base
+      → HoldsWanted (contents_of run.store) found base.first base.bytes
+  holds_all None wanting_ base read = tt
+  holds_all (Some wanted) wanting_ base read =
+      let found : content_of run.store.start run.store.log wanted.name wanted.generation ≡ Some read.object.content = known wanted read.object read.is_live in
+      let long : length base.bytes ≡ wanted.range.count = read_len before.store.bucket wanted base (has_bytes (Some wanted) wanting_) read in
+      ap (λ (c : Option (List ℕ)). take (length base.bytes) (drop base.first (unwrap_or c []))) found
+      ∙ ap (λ n. take (length base.bytes) (drop n read.object.content)) read.first
+      ∙ ap (λ n. take n (drop wanted.range.first read.object.content)) long
+      ∙ sym read.bytes
 
-  pub holds_read : HoldsWanted (contents_of run.store) (Some wanted) base.first base.bytes
-  holds_read =
-      ap (λ (found : Option (List ℕ)). take (length base.bytes) (drop base.first (unwrap_or found []))) known
-      ∙ ap (λ n. take (length base.bytes) (drop n is.object.content)) is.first
-      ∙ ap (λ n. take n (drop wanted.range.first is.object.content)) read_len
-      ∙ sym is.bytes
-
--- the same of what a request wants, if anything
-module _ (before : SerialState) (request : Request) (base : Base) (run : RunState) (came : CameTo run before) where
-  pub covers_all : (found : Option Wanted) → wants before.mount request ≡ found → HasRead before.store.bucket found base → CoversWanted found base.first (length base.bytes)
-  covers_all None wanting read = tt
-  covers_all (Some wanted) wanting read = covers_read before request wanted wanting base read run came
-
-  pub holds_all : (found : Option Wanted) → wants before.mount request ≡ found → HasRead before.store.bucket found base → HoldsWanted (contents_of run.store) found base.first base.bytes
-  holds_all None wanting read = tt
-  holds_all (Some wanted) wanting read = holds_read before request wanted wanting base read run came
+-- ---- a range that is wanted, where any byte is
+pub holds_range : (contents : Contents) (name : List ℕ) (generation : ℕ) (range : Range) (base : Base) → HoldsBase contents (wanting name generation range) base
+    → Holds (contents name generation) base.first base.bytes
+holds_range contents name generation range base holds = by (nat_lt 0 range.count) holds
+  where
+    by : (any : Bool) → HoldsBase contents (if any then Some (record { name = name; generation = generation; range = range }) else None) base → Holds (contents name generation) base.first base.bytes
+    by true holds_it = holds_it
+    by false none = subst (λ (bytes : List ℕ). Holds (contents name generation) base.first bytes) (sym none) refl

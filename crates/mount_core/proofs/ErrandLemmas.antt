@@ -1,30 +1,37 @@
 -- The errand of a request that isn't refused asks what its plan asks, reads left out, and wants what the request wants.
-use Rattle.std.proofs.Common.{◌≡◌, ℕ, Bool, true, false, List, [], ◌∷◌, Option, Some, None, Result, Ok, Err, IfOk, IfSome, refl, sym, ap, ◌∙◌}
+use Rattle.std.proofs.Common.{◌≡◌, ℕ, Bool, true, false, List, [], ◌∷◌, Option, Some, None, Result, Ok, Err, IfOk, IfSome, refl, sym, ap, subst, ◌∙◌}
 use Rattle.std.specs.Prelude.{not, ◌&&◌, is_some, if◌then◌else◌}
 use Rattle.std.specs.Option.{option_map_or}
 use Rattle.bucket_api.specs.declared.answers.Answer.{Answer}
 use Rattle.bucket_api.specs.declared.answers.Answer.TheVariants as answers
 use Rattle.bucket_api.specs.declared.objects.Pair.{Pair}
+use Rattle.bucket_api.specs.Operation.{Operation}
+use Rattle.fuse_replies.specs.Errno.{eproto}
 use Rattle.fuse_requests.specs.declared.request.Request.{Request}
 use Rattle.fuse_requests.specs.declared.request.Request.TheVariants.{Opendir}
-use Rattle.mount_core.specs.Errands.{AsksAs, HoldsEntries, plan_of, wanted_of}
+use Rattle.mount_core.specs.Errands.{AsksAs, HoldsEntries, content_of, plan_of, plan_over, wanted_of}
 use Rattle.mount_core.specs.declared.errand.Errand.{Errand}
 use Rattle.mount_model.specs.declared.config.Config.{Config}
-use Rattle.mount_rules.specs.Dispatch.{early, goes_on, is_idle, is_silent, plan, rules_of, taken_at, view_in, wants}
+use Rattle.mount_rules.specs.Dispatch.{early, goes_on, is_full, is_idle, is_init, is_silent, plan, rules_of, taken_at, view_in, wants}
 use Rattle.mount_rules.specs.Making as making
 use Rattle.mount_rules.specs.Mount.{MountModel}
 use Rattle.mount_model.specs.Observing.{Observed}
-use Rattle.mount_rules.specs.Plans.{Plan, answers_of, done, without_reads}
+use Rattle.mount_rules.specs.Plans.{Plan, Source, answers_of, done, without_reads}
 use Rattle.mount_rules.specs.Reading.{Reads, given, gone, failed, reads, source_of, while_given}
+use Rattle.mount_rules.specs.Requests.Flush as flush
 use Rattle.mount_rules.specs.Requests.Lookup as lookup
 use Rattle.mount_rules.specs.Requests.Lookup.{Probed, present, absent, failed as probe_failed}
 use Rattle.mount_rules.specs.Requests.Opendir as opendir
 use Rattle.mount_rules.specs.Requests.Read as reading
+use Rattle.mount_rules.specs.Requests.Setattr as setattr
+use Rattle.mount_rules.specs.Requests.Setattr.{Asked, Change}
+use Rattle.mount_rules.specs.Requests.Write as writing
 use Rattle.mount_rules.specs.Rules.{AtTake, at_node}
 use Rattle.mount_rules.specs.Standing as standing
 use Rattle.mount_rules.specs.View.{Sight, View, view_of}
 use Rattle.mount_state.specs.Spares.{Fills}
 use Rattle.object_names.specs.declared.shown.DirItem.{DirItem}
+use Rattle.plan_files.specs.Errands.{asks_behind}
 
 -- ---- the dispatcher
 -- a request that gets a reply and isn't refused goes by its rules
@@ -36,24 +43,33 @@ goes_free mount request speaks free =
     idle : is_idle mount request ≡ false
     idle = ap (λ (s : Bool). s && not mount.negotiated) speaks
 
+pub refusal_free : (mount : MountModel) (request : Request) → early mount request ≡ None → (rules_of request).refusal (view_in mount request) ≡ None
+refusal_free mount request free = by (not mount.negotiated && not (is_silent request) && not (is_init request)) free
+  where
+    by : (waits : Bool) → (if waits then Some eproto else (rules_of request).refusal (view_in mount request)) ≡ None → (rules_of request).refusal (view_in mount request) ≡ None
+    by true e = absurd (let never : Some eproto ≡ None = e in cc)
+    by false e = e
+
 plan_free : (at : AtTake) (mount : MountModel) (request : Request) → is_silent request ≡ false → early mount request ≡ None
     → (rules_of request).plan (taken_at at mount request) ≡ plan at mount request
 plan_free at mount request speaks free =
     sym (ap (λ (on : Bool). if on then (rules_of request).plan (taken_at at mount request) else (λ (answers : List Answer). done)) (goes_free mount request speaks free))
 
-pub plans_so : {E : Type 0} (r : Result Errand E) (config : Config) (mount : MountModel) (request : Request)
+pub plans_so : {E : Type 0} (r : Result Errand E) (config : Config) (second : ℕ) (mount : MountModel) (request : Request)
     → is_silent request ≡ false → early mount request ≡ None
-    → IfOk r (λ errand. (at : AtTake) → at.config ≡ config → AsksAs (plan_of errand at.second) ((rules_of request).plan (taken_at at mount request)))
-    → IfOk r (λ errand. (at : AtTake) → at.config ≡ config → AsksAs (plan_of errand at.second) (plan at mount request))
-plans_so (Ok errand) config mount request speaks free carries = λ at is answers.
-    carries at is answers ∙ ap (λ (p : Plan). without_reads (p answers)) (plan_free at mount request speaks free)
-plans_so (Err e) config mount request speaks free carries = tt
+    → IfOk r (λ errand. (at : AtTake) → at.config ≡ config → at.second ≡ second → AsksAs (plan_over errand at.contents at.second) ((rules_of request).plan (taken_at at mount request)))
+    → IfOk r (λ errand. (at : AtTake) → at.config ≡ config → at.second ≡ second → AsksAs (plan_over errand at.contents at.second) (plan at mount request))
+plans_so (Ok errand) config second mount request speaks free carries = λ at is same answers.
+    carries at is same answers ∙ ap (λ (p : Plan). without_reads (p answers)) (plan_free at mount request speaks free)
+plans_so (Err e) config second mount request speaks free carries = tt
 
-pub wants_so : {E : Type 0} (r : Result Errand E) (mount : MountModel) (request : Request) → is_silent request ≡ false → early mount request ≡ None
-    → IfOk r (λ errand. wanted_of errand ≡ (rules_of request).wants (view_in mount request)) → IfOk r (λ errand. wanted_of errand ≡ wants mount request)
-wants_so (Ok errand) mount request speaks free is =
-    is ∙ sym (ap (λ (on : Bool). if on then (rules_of request).wants (view_in mount request) else None) (goes_free mount request speaks free))
-wants_so (Err e) mount request speaks free is = tt
+pub wants_so : {E : Type 0} (r : Result Errand E) (config : Config) (mount : MountModel) (request : Request) → is_silent request ≡ false → early mount request ≡ None
+    → is_full config mount request ≡ false
+    → IfOk r (λ errand. wanted_of errand ≡ (rules_of request).wants (view_in mount request)) → IfOk r (λ errand. wanted_of errand ≡ wants config mount request)
+wants_so (Ok errand) config mount request speaks free fits is =
+    is ∙ sym (ap (λ (on : Bool). if on then (if is_full config mount request then None else (rules_of request).wants (view_in mount request)) else None) (goes_free mount request speaks free)
+    ∙ ap (λ (full : Bool). if full then None else (rules_of request).wants (view_in mount request)) fits)
+wants_so (Err e) config mount request speaks free fits is = tt
 
 -- ---- plans without reads
 after_probe_reads : (path : List ℕ) (suffix : Bool) (probed : Probed) → lookup.after_probe path suffix probed ≡ without_reads (lookup.after_probe path suffix probed)
@@ -88,27 +104,28 @@ opendir_reads prefix max after (answers.Precondition generation metageneration �
 opendir_reads prefix max after (answers.Fault ∷ more) = refl
 
 -- a look-up carries out the plan of its settings
-pub looks_so : {E : Type 0} (r : Result Errand E) (config : Config) (path : List ℕ) (suffix : Bool)
-    → IfOk r (λ errand. (second : ℕ) → plan_of errand second ≡ lookup.plan config.implicit_dirs path suffix)
-    → IfOk r (λ errand. (at : AtTake) → at.config ≡ config → AsksAs (plan_of errand at.second) (lookup.plan at.config.implicit_dirs path suffix))
-looks_so (Ok errand) config path suffix is = λ at same told.
-    ap (λ (p : Plan). p told) (is at.second) ∙ lookup_reads config.implicit_dirs path suffix told
+pub looks_so : {E : Type 0} (r : Result Errand E) (config : Config) (second : ℕ) (path : List ℕ) (suffix : Bool)
+    → IfOk r (λ errand. (content : List ℕ) (stamp : ℕ) → plan_of errand content stamp ≡ lookup.plan config.implicit_dirs path suffix)
+    → IfOk r (λ errand. (at : AtTake) → at.config ≡ config → at.second ≡ second → AsksAs (plan_over errand at.contents at.second) (lookup.plan at.config.implicit_dirs path suffix))
+looks_so (Ok errand) config second path suffix is = λ at same stamped told.
+    ap (λ (p : Plan). p told) (is (content_of errand at.contents) at.second) ∙ lookup_reads config.implicit_dirs path suffix told
     ∙ ap (λ (c : Config). without_reads (lookup.plan c.implicit_dirs path suffix told)) (sym same)
-looks_so (Err e) config path suffix is = tt
+looks_so (Err e) config second path suffix is = tt
 
-pub makes_so : {E : Type 0} (r : Result Errand E) (config : Config) (name : List ℕ)
-    → IfOk r (λ errand. (second : ℕ) → plan_of errand second ≡ making.plan name [] second)
-    → IfOk r (λ errand. (at : AtTake) → at.config ≡ config → AsksAs (plan_of errand at.second) (making.plan name [] at.second))
-makes_so (Ok errand) config name is = λ at same told. ap (λ (p : Plan). p told) (is at.second) ∙ making_reads name [] at.second told
-makes_so (Err e) config name is = tt
+pub makes_so : {E : Type 0} (r : Result Errand E) (config : Config) (second : ℕ) (name : List ℕ)
+    → IfOk r (λ errand. (content : List ℕ) (stamp : ℕ) → plan_of errand content stamp ≡ making.plan name [] stamp)
+    → IfOk r (λ errand. (at : AtTake) → at.config ≡ config → at.second ≡ second → AsksAs (plan_over errand at.contents at.second) (making.plan name [] at.second))
+makes_so (Ok errand) config second name is = λ at same stamped told.
+    ap (λ (p : Plan). p told) (is (content_of errand at.contents) at.second) ∙ making_reads name [] at.second told
+makes_so (Err e) config second name is = tt
 
-pub lists_so : {E : Type 0} (r : Result Errand E) (config : Config) (prefix : List ℕ)
-    → IfOk r (λ errand. (second : ℕ) → plan_of errand second ≡ opendir.plan prefix config.list_page None)
-    → IfOk r (λ errand. (at : AtTake) → at.config ≡ config → AsksAs (plan_of errand at.second) (opendir.plan prefix at.config.list_page None))
-lists_so (Ok errand) config prefix is = λ at same told.
-    ap (λ (p : Plan). p told) (is at.second) ∙ opendir_reads prefix config.list_page None told
+pub lists_so : {E : Type 0} (r : Result Errand E) (config : Config) (second : ℕ) (prefix : List ℕ)
+    → IfOk r (λ errand. (content : List ℕ) (stamp : ℕ) → plan_of errand content stamp ≡ opendir.plan prefix config.list_page None)
+    → IfOk r (λ errand. (at : AtTake) → at.config ≡ config → at.second ≡ second → AsksAs (plan_over errand at.contents at.second) (opendir.plan prefix at.config.list_page None))
+lists_so (Ok errand) config second prefix is = λ at same stamped told.
+    ap (λ (p : Plan). p told) (is (content_of errand at.contents) at.second) ∙ opendir_reads prefix config.list_page None told
     ∙ ap (λ (c : Config). without_reads (opendir.plan prefix c.list_page None told)) (sym same)
-lists_so (Err e) config prefix is = tt
+lists_so (Err e) config second prefix is = tt
 
 -- ---- errands on files
 -- one stat, or none, has no reads
@@ -117,23 +134,16 @@ standing_reads None told = refl
 standing_reads (Some name) [] = refl
 standing_reads (Some name) (a ∷ more) = refl
 
--- reads alone ask nothing else
-pub only_reads : (view : View) (told : List Answer) → done ≡ without_reads (reading.plan view told)
-only_reads view told = by view.node
-  where
-    while_ : (file : Sight) (r : Reads) → done ≡ without_reads (while_given (source_of file) r)
-    while_ file given = refl
-    while_ file gone = refl
-    while_ file failed = refl
-
-    by : (seen : Option Sight) → done ≡ without_reads (option_map_or (λ file. while_given (source_of file) (reads told)) seen done)
-    by None = refl
-    by (Some file) = while_ file (reads told)
-
-pub at_any : {E : Type 0} (r : Result Errand E) (config : Config) (asks : Plan)
-    → IfOk r (λ errand. (second : ℕ) → AsksAs (plan_of errand second) asks) → IfOk r (λ errand. (at : AtTake) → at.config ≡ config → AsksAs (plan_of errand at.second) asks)
-at_any (Ok errand) config asks is = λ at same. is at.second
-at_any (Err e) config asks is = tt
+-- the insert of a flush stands behind the reads
+pub behind_reads : (source : Source) (op : Operation) (told : List Answer) → asks_behind op told ≡ without_reads (flush.after_reads source op told)
+behind_reads source op [] = refl
+behind_reads source op (answers.Bytes bytes ∷ more) = behind_reads source op more
+behind_reads source op (answers.Meta meta ∷ more) = refl
+behind_reads source op (answers.Page page ∷ more) = refl
+behind_reads source op (answers.Done ∷ more) = refl
+behind_reads source op (answers.NotFound ∷ more) = refl
+behind_reads source op (answers.Precondition generation metageneration ∷ more) = refl
+behind_reads source op (answers.Fault ∷ more) = refl
 
 -- the entries of a listing are those that its OPENDIR opens its handle with
 pub listed_so : {E : Type 0} (r : Result Errand E) (config : Config) (mount : MountModel) (node : ℕ)
@@ -142,7 +152,34 @@ pub listed_so : {E : Type 0} (r : Result Errand E) (config : Config) (mount : Mo
 listed_so (Ok errand) config mount node lists = λ seen items holds. lists (answers_of seen) items holds
 listed_so (Err e) config mount node lists = tt
 
-pub reads_so : {E : Type 0} (r : Result Errand E) (config : Config) (view : View)
-    → IfOk r (λ errand. (second : ℕ) (v : View) → AsksAs (plan_of errand second) (reading.plan v)) → IfOk r (λ errand. (at : AtTake) → at.config ≡ config → AsksAs (plan_of errand at.second) (reading.plan view))
-reads_so (Ok errand) config view is = λ at same. is at.second view
-reads_so (Err e) config view is = tt
+pub reads_so : {E : Type 0} (r : Result Errand E) (config : Config) (second : ℕ) (view : View)
+    → IfOk r (λ errand. (content : List ℕ) (stamp : ℕ) (v : View) → AsksAs (plan_of errand content stamp) (reading.plan v))
+    → IfOk r (λ errand. (at : AtTake) → at.config ≡ config → at.second ≡ second → AsksAs (plan_over errand at.contents at.second) (reading.plan view))
+reads_so (Ok errand) config second view is = λ at same stamped. is (content_of errand at.contents) at.second view
+reads_so (Err e) config second view is = tt
+
+-- a time is set, or the object asked for, with the second of the call
+pub sets_so : {E : Type 0} (r : Result Errand E) (config : Config) (second : ℕ) (asked : Asked) (view : View) (change : Change)
+    → IfOk r (λ errand. (content : List ℕ) → AsksAs (plan_of errand content second) (setattr.plan_by asked second view change))
+    → IfOk r (λ errand. (at : AtTake) → at.config ≡ config → at.second ≡ second → AsksAs (plan_over errand at.contents at.second) (setattr.plan_by asked at.second view change))
+sets_so (Ok errand) config second asked view change is = λ at same stamped.
+    subst (λ s. AsksAs (plan_over errand at.contents s) (setattr.plan_by asked s view change)) (sym stamped) (is (content_of errand at.contents))
+sets_so (Err e) config second asked view change is = tt
+
+pub flushes_so : {E : Type 0} (r : Result Errand E) (config : Config) (second : ℕ) (mount : MountModel) (node fh : ℕ)
+    → IfOk r (λ errand. (at : AtTake) (handle : ℕ) → AsksAs (plan_over errand at.contents at.second) (flush.plan (record { at = at; view = view_of mount (flush.looks node handle) })))
+    → IfOk r (λ errand. (at : AtTake) → at.config ≡ config → at.second ≡ second → AsksAs (plan_over errand at.contents at.second) (flush.plan (record { at = at; view = view_of mount (flush.looks node fh) })))
+flushes_so (Ok errand) config second mount node fh is = λ at same stamped. is at fh
+flushes_so (Err e) config second mount node fh is = tt
+
+pub writes_so : {E : Type 0} (r : Result Errand E) (config : Config) (second : ℕ) (view : View)
+    → IfOk r (λ errand. (content : List ℕ) (stamp : ℕ) (v : View) → AsksAs (plan_of errand content stamp) (writing.plan v))
+    → IfOk r (λ errand. (at : AtTake) → at.config ≡ config → at.second ≡ second → AsksAs (plan_over errand at.contents at.second) (writing.plan view))
+writes_so (Ok errand) config second view is = λ at same stamped. is (content_of errand at.contents) at.second view
+writes_so (Err e) config second view is = tt
+
+-- a FLUSH and an FSYNC want the same
+pub wants_flushed : {E : Type 0} (r : Result Errand E) (mount : MountModel) (node fh : ℕ)
+    → IfOk r (λ errand. (handle : ℕ) → wanted_of errand ≡ flush.wanted (view_of mount (flush.looks node handle))) → IfOk r (λ errand. wanted_of errand ≡ flush.wanted (view_of mount (flush.looks node fh)))
+wants_flushed (Ok errand) mount node fh is = is fh
+wants_flushed (Err e) mount node fh is = tt

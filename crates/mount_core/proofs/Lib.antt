@@ -3,10 +3,16 @@ mod BaseLemmas
 mod ErrandLemmas
 mod FileLemmas
 pub mod FirstLemmas
+mod FlushLemmas
 mod GoneLemmas
 mod HarmlessLemmas
+mod InsertLemmas
+mod MetadataLemmas
 mod PageKeys
+mod PairsInOrder
 mod SeenLemmas
 mod SendLemmas
 mod SerialLemmas
+mod SetTimes
+mod ToldLemmas
 mod WalkLemmas

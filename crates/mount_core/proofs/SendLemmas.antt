@@ -1,14 +1,20 @@
 -- What refuses a request is an errno that a reply may tell.
-use Rattle.std.proofs.Common.{◌≡◌, ◌≤◌, ℕ, Bool, true, false, List, Option, Some, None, sym, subst, arith, nat_le, length, option_and_then}
+use Rattle.std.proofs.Common.{◌≡◌, ◌≤◌, ◌+◌, ℕ, Bool, true, false, List, Option, Some, None, sym, subst, arith, nat_le, length, option_and_then}
 use Rattle.std.specs.Prelude.{not, ◌&&◌, if◌then◌else◌}
 use Rattle.std.specs.Option.{option_map_or}
-use Rattle.fuse_replies.specs.Errno.{ebadf, einval, enametoolong, enosys, enotdir, eproto, estale}
+use Rattle.fuse_replies.specs.Errno.{ebadf, efbig, einval, enametoolong, enosys, enospc, enotdir, eproto, estale}
 use Rattle.fuse_requests.specs.declared.request.Request.{Request}
-use Rattle.fuse_requests.specs.declared.request.Request.TheVariants.{BatchForget, Create, Destroy, Forget, Fsyncdir, Getattr, Init, Interrupt, Lookup, Opendir, Opening, Read, Readdir, Release, Releasedir, Statfs, Unknown}
+use Rattle.fuse_requests.specs.declared.request.Request.TheVariants.{BatchForget, Create, Destroy, Flush, Forget, Fsync, Fsyncdir, Getattr, Init, Interrupt, Lookup, Opendir, Opening, Read, Readdir, Release, Releasedir, Setattr, Statfs, Unknown, Write}
 use Rattle.handle_table.specs.Handles.{Opened}
-use Rattle.mount_rules.specs.Dispatch.{early, is_among, is_init, is_silent, rules_of, served_opcodes, silent_opcodes, view_in}
+use Rattle.bucket_api.specs.Operation.{max_content}
+use Rattle.file_metadata.specs.FileMetadata.{last_second}
+use Rattle.mount_model.specs.declared.config.Config.{Config}
+use Rattle.mount_rules.specs.Dispatch.{early, is_among, is_full, is_init, is_silent, refused_at_take, rules_of, served_opcodes, silent_opcodes, view_in}
 use Rattle.mount_rules.specs.Guards.{entries_opened, errno_of_fault, in_directory, file_opened, is_directory, longest_read, on_file, on_live, on_open_directory, on_open_file, part_refusal, size_refusal}
 use Rattle.mount_rules.specs.Mount.{MountModel}
+use Rattle.mount_rules.specs.Requests.Setattr as setattr
+use Rattle.mount_rules.specs.Requests.Setattr.{Asked}
+use Rattle.mount_rules.specs.Requests.Write as write
 use Rattle.mount_rules.specs.View.{Sight, View, child_of}
 use Rattle.object_names.specs.Components.{name_fault}
 use Rattle.object_names.specs.Paths.{bare_name, path_max}
@@ -65,10 +71,10 @@ on_live-told (Some sight) next tells = by sight.live
     by true = tells sight
     by false = (omega arith, omega arith)
 
-on_file-told : (kind : NodeKind) → IsTold (on_file kind None)
-on_file-told Dir = (omega arith, omega arith)
-on_file-told Symlink = (omega arith, omega arith)
-on_file-told File = tt
+on_file-told : (kind : NodeKind) (next : Option ℕ) → IsTold next → IsTold (on_file kind next)
+on_file-told Dir next tells = (omega arith, omega arith)
+on_file-told Symlink next tells = (omega arith, omega arith)
+on_file-told File next tells = tells
 
 on_open_file-told : (node : ℕ) (view : View) (next : Sight → Option ℕ) → ((sight : Sight) → IsTold (next sight)) → IsTold (on_open_file node view next)
 on_open_file-told node view next tells = by (file_opened node view)
@@ -86,6 +92,35 @@ unread-told true served = tt
 unread-told false true = (omega arith, omega arith)
 unread-told false false = (omega arith, omega arith)
 
+-- a place behind the longest content, and more bytes than a WRITE may have
+write-told : (first count : ℕ) → IsTold (write.limits_refusal first count)
+write-told first count = by (nat_le count write.longest_write) (nat_le (first + count) max_content)
+  where
+    by : (few inside : Bool) → IsTold (if few then (if inside then None else Some efbig) else Some einval)
+    by true true = tt
+    by true false = (omega arith, omega arith)
+    by false inside = (omega arith, omega arith)
+
+-- a length and a time that no file can have, and a length of what is no file
+setattr-told : (asked : Asked) (kind : NodeKind) → IsTold (setattr.kind_refusal asked kind)
+setattr-told asked kind = by (setattr.sets_size asked) (limits (setattr.time_refusal asked kind) (time (setattr.is_file kind && setattr.sets_time asked && not (setattr.sets_now asked) && setattr.is_out_of_range asked)) (size (setattr.sets_size asked && not (nat_le asked.size max_content))))
+  where
+    time : (refused : Bool) → IsTold (if refused then Some einval else None)
+    time true = (omega arith, omega arith)
+    time false = tt
+
+    size : (refused : Bool) → IsTold (if refused then Some efbig else None)
+    size true = (omega arith, omega arith)
+    size false = tt
+
+    limits : (first : Option ℕ) → IsTold first → IsTold (setattr.size_refusal asked) → IsTold (option_map_or Some first (setattr.size_refusal asked))
+    limits None f s = s
+    limits (Some errno) f s = f
+
+    by : (sized : Bool) → IsTold (setattr.limits_refusal asked kind) → IsTold (if sized then on_file kind (setattr.limits_refusal asked kind) else setattr.limits_refusal asked kind)
+    by true tells = on_file-told kind (setattr.limits_refusal asked kind) tells
+    by false tells = tells
+
 refusal-told : (request : Request) (view : View) → IsTold ((rules_of request).refusal view)
 refusal-told (Lookup node name) view = in_directory-told view.node (part_refusal (bare_name name)) (part_refusal-told (bare_name name))
 refusal-told (Create node name) view = in_directory-told view.node (part_refusal name) (part_refusal-told name)
@@ -93,8 +128,14 @@ refusal-told (Opendir node) view = in_directory-told view.node (λ directory. No
 refusal-told (Readdir node fh first size) view =
     on_open_directory-told node view.handle (λ entries. size_refusal size) (λ entries. size-told (nat_le size longest_read))
 refusal-told (Getattr node) view = on_live-told view.node (λ sight. None) (λ sight. tt)
-refusal-told (Opening node flags) view = on_live-told view.node (λ sight. on_file sight.kind None) (λ sight. on_file-told sight.kind)
+refusal-told (Opening node flags) view = on_live-told view.node (λ sight. on_file sight.kind None) (λ sight. on_file-told sight.kind None tt)
 refusal-told (Read node fh first size) view = on_open_file-told node view (λ file. size_refusal size) (λ file. size-told (nat_le size longest_read))
+refusal-told (Write node fh first bytes) view = on_open_file-told node view (λ file. write.limits_refusal first (length bytes)) (λ file. write-told first (length bytes))
+refusal-told (Flush node fh) view = on_open_file-told node view (λ file. None) (λ file. tt)
+refusal-told (Fsync node fh) view = on_open_file-told node view (λ file. None) (λ file. tt)
+refusal-told (Setattr node valid size mtime nanos) view =
+    let asked : Asked = record { valid = valid; size = size; seconds = mtime; nanos = nanos } in
+    on_live-told view.node (λ sight. setattr.kind_refusal asked sight.kind) (λ sight. setattr-told asked sight.kind)
 refusal-told (Release node fh) view = on_open_file-told node view (λ file. None) (λ file. tt)
 refusal-told (Releasedir node fh) view = on_open_directory-told node view.handle (λ entries. None) (λ entries. tt)
 refusal-told (Fsyncdir node fh) view = on_open_directory-told node view.handle (λ entries. None) (λ entries. tt)
@@ -108,9 +149,17 @@ refusal-told (Unknown opcode) view = unread-told (is_among silent_opcodes opcode
 refusal-told _ view = (omega arith, omega arith)
 
 -- what refuses a request at its take
-pub early-told : (mount : MountModel) (request : Request) (errno : ℕ) → Some errno ≡ early mount request → (1 ≤ errno) × (errno ≤ 511)
-early-told mount request errno is = subst IsTold (sym is) (by (not mount.negotiated && not (is_silent request) && not (is_init request)))
+pub taken-told : (config : Config) (mount : MountModel) (request : Request) (errno : ℕ) → Some errno ≡ refused_at_take config mount request → (1 ≤ errno) × (errno ≤ 511)
+taken-told config mount request errno is = subst IsTold (sym is) (by (early mount request) (first (not mount.negotiated && not (is_silent request) && not (is_init request))))
   where
-    by : (waits : Bool) → IsTold (if waits then Some eproto else (rules_of request).refusal (view_in mount request))
-    by true = (omega arith, omega arith)
-    by false = refusal-told request (view_in mount request)
+    first : (waits : Bool) → IsTold (if waits then Some eproto else (rules_of request).refusal (view_in mount request))
+    first true = (omega arith, omega arith)
+    first false = refusal-told request (view_in mount request)
+
+    full : (b : Bool) → IsTold (if b then Some enospc else None)
+    full true = (omega arith, omega arith)
+    full false = tt
+
+    by : (refused : Option ℕ) → IsTold refused → IsTold (option_map_or Some refused (if is_full config mount request then Some enospc else None))
+    by None told = full (is_full config mount request)
+    by (Some e) told = told

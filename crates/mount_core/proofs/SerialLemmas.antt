@@ -1,12 +1,14 @@
 -- A request that was walked along its plan, or refused, is the next one of whatever run came to the mount.
-use Rattle.std.proofs.Common.{◌≡◌, ℕ, All, Bool, true, false, List, [], Option, Some, None, refl, sym, ap, subst, ◌∙◌, inl, inr}
+use Rattle.std.proofs.Math.Nat.{min-le_right}
+use Rattle.std.proofs.Common.{◌≡◌, ◌≤◌, ◌+◌, ℕ, All, Bool, true, false, List, [], Option, Some, None, refl, sym, ap, subst, ◌∙◌, inl, inr, arith}
 use Rattle.std.proofs.lemmas.Bool.{false≢true}
-use Rattle.std.specs.Prelude.{not, ◌&&◌, is_some, if◌then◌else◌}
+use Rattle.std.specs.Prelude.{not, ◌&&◌, is_some, if◌then◌else◌, IsSome}
 use Rattle.std.specs.Option.{option_map_or}
 use Rattle.bucket_api.specs.BucketState.{BucketState, IsBucket}
 use Rattle.bucket_api.specs.Operation.{IsAllowed}
 use Rattle.bucket_api.specs.declared.answers.Answer.{Answer}
-use Rattle.fuse_replies.specs.Errno.{einval, enomem, enosys, eproto, estale}
+use Rattle.file_metadata.specs.FileMetadata.{last_second}
+use Rattle.fuse_replies.specs.Errno.{einval, enomem, enospc, enosys, eproto, estale}
 use Rattle.fuse_replies.specs.declared.reply.Reply.{Reply}
 use Rattle.fuse_replies.specs.declared.reply.Reply.TheVariants.{Error, Silent}
 use Rattle.fuse_requests.specs.declared.request.Request.{Request}
@@ -15,46 +17,80 @@ use Rattle.mount_core.specs.Serials.{CameTo, SerialState, ServesOne}
 use Rattle.mount_core.specs.Bases.{IsGone, StopsBy, errno_of}
 use Rattle.mount_core.specs.declared.stopped.Stopped.{Stopped}
 use Rattle.mount_core.specs.declared.stopped.Stopped.TheVariants.{NoMemory, Stale}
-use Rattle.mount_core.specs.Errands.{AsksAs, plan_of}
+use Rattle.mount_core.specs.Errands.{AsksAs, plan_over}
+use Rattle.mount_core.specs.Metadatas.{GivesMetadata}
 use Rattle.mount_core.specs.declared.errand.Errand.{Errand}
 use Rattle.mount_core.specs.Stores.{Counted, LeavesBucket}
 use Rattle.mount_core.specs.Walks.{Stops, Walks}
-use Rattle.mount_core.proofs.WalkLemmas.{Completes-asked, Observes-asked, Planned-observed, Walks-none, asks_too}
+use Rattle.mount_core.proofs.WalkLemmas.{Completes-asked, Observes-asked, Planned-observed, Walks-none, asks_too, ends_with}
+use Rattle.mount_core.proofs.MetadataLemmas.{gives_after}
+use Rattle.mount_core.proofs.ToldLemmas.{tell_in_order}
 use Rattle.mount_laws.proofs.Contents.{files_keep_content}
+use Rattle.mount_laws.proofs.Lengths.{files_are_short}
+use Rattle.mount_laws.proofs.Refusals.{full_is_refused}
 use Rattle.mount_laws.proofs.RequestLaws.{may_read_wanted}
+use Rattle.mount_laws.proofs.Settled.{staged_stay_over}
 use Rattle.mount_model.specs.Observing.{Observed}
 use Rattle.mount_model.specs.declared.config.Config.{Config}
-use Rattle.mount_rules.specs.Dispatch.{early, goes_on, is_among, is_idle, is_init, is_silent, mount_after, plan, reply_to, rules_of, served_opcodes, taken_at, view_in, wants}
+use Rattle.mount_rules.specs.Dispatch.{early, goes_on, is_among, is_full, is_idle, is_init, is_silent, mount_after, plan, refused_at_take, reply_to, rules_of, served_opcodes, taken_at, view_in, wants}
 use Rattle.mount_rules.specs.Mount.{IsMount, MountModel}
-use Rattle.mount_rules.specs.Laws.{FilesHaveContent}
-use Rattle.mount_rules.specs.OneThread.{Call, Ending, IsLawful, RunState, after_operations, at_state, performed, plan_at, second_of, short, stale, state_after_call}
-use Rattle.mount_rules.specs.Plans.{Completes, Plan, Source, Step, Wanted, done, may_read, without_reads}
+use Rattle.mount_rules.specs.Files.{FilesAreShort}
+use Rattle.mount_rules.specs.Laws.{FilesHaveContent, IsRefusedFull, StagedStandOver}
+use Rattle.mount_rules.specs.OneThread.{Call, Ending, IsLawful, RunState, after_operations, at_state, contents_of, mount_by, performed, plan_at, second_of, short, stale, state_after_call}
+use Rattle.mount_rules.specs.Plans.{Completes, Contents, MayEnd, Plan, Source, Step, Wanted, done, may_read, without_reads}
 use Rattle.mount_rules.specs.Rules.{AtTake}
 use Rattle.mount_rules.specs.View.{View}
 
--- a lawful call leaves what files show as content that was live
-came_to : (config : Config) (run : RunState) (call : Call) (left : RunState) (after : SerialState) → IsMount run.mount → IsBucket run.store.start → IsLawful config run call
-    → FilesHaveContent run → left ≡ state_after_call config run call → after.mount ≡ left.mount → LeavesBucket left.store after.store → CameTo left after
-came_to config run call left after is start lawful files reached mount store = record {
-  mount = mount;
-  store = store;
-  files = subst FilesHaveContent (sym reached)
-      (files_keep_content config run call is start (subst (λ (s : RunState). All (λ e. IsAllowed e.op) s.store.log) reached store.allowed) lawful files);
-}
+-- the second of a call is a time that a file may have
+pub early_second : (config : Config) → second_of config ≤ last_second
+early_second config = min-le_right (config.start + 0) last_second
+
+-- a lawful call leaves what files show as content that was live, what is staged over that, and metadata that may be given
+module _ (config : Config) (run : RunState) (call : Call) (is : IsMount run.mount) (lawful : IsLawful config run call) (start : IsBucket run.store.start) where
+  metadata_after : All (λ e. IsAllowed e.op) (state_after_call config run call).store.log → GivesMetadata run.mount → GivesMetadata (state_after_call config run call).mount
+  metadata_after allowed gives = by call.ending
+    where
+      by : (ending : Ending) → GivesMetadata (mount_by config run call ending)
+      by performed =
+          gives_after (at_state config run) run.mount call.request call.seen is (early_second config)
+          (tell_in_order (plan_at config run call.request) run.store call.seen start allowed lawful.observed) gives
+      by short = gives
+      by stale = gives
+
+  came_to : (before : SerialState) → CameTo run before → (left : RunState) (after : SerialState) → left ≡ state_after_call config run call → after.mount ≡ left.mount
+      → LeavesBucket left.store after.store → CameTo left after
+  came_to before came left after reached mount store =
+      let allowed = subst (λ (s : RunState). All (λ e. IsAllowed e.op) s.store.log) reached store.allowed in
+      record {
+        mount = mount;
+        store = store;
+        files = subst FilesHaveContent (sym reached) (files_keep_content config run call is start allowed lawful came.files);
+        staged = subst StagedStandOver (sym reached) (staged_stay_over config run call is start allowed lawful came.files came.staged);
+        metadata = subst (λ (s : RunState). GivesMetadata s.mount) (sym reached) (metadata_after allowed came.metadata);
+      }
+
+-- no file of a mount that a run came to is longer than a content may be
+pub short_files : (run : RunState) (before : SerialState) → CameTo run before → FilesAreShort before.mount
+short_files run before came = subst FilesAreShort (sym came.mount) (files_are_short run came.store.start came.store.allowed came.files)
+
+pub gives_metadata : (run : RunState) (before : SerialState) → CameTo run before → GivesMetadata before.mount
+gives_metadata run before came = subst GivesMetadata (sym came.mount) came.metadata
 
 module _ (before : SerialState) (request : Request) (is : IsMount before.mount) where
   -- what a call of a run has from its take
   abbrev at_run : RunState → AtTake
   at_run run = at_state before.config run
 
-  -- whatever run came to the state, the plan asks the same, reads left out
-  abbrev pub AsksAlong : Plan → Type 0
-  AsksAlong asked = (run : RunState) → CameTo run before → AsksAs asked (plan (at_run run) before.mount request)
+  -- whatever run came to the state, the plan asks the same, reads left out, where generations hold what they do in that run
+  abbrev pub AsksAlong : (Contents → Plan) → Type 0
+  AsksAlong asked = (run : RunState) → CameTo run before → AsksAs (asked (contents_of run.store)) (plan (at_run run) before.mount request)
 
   -- an errand asks so at any take with its settings
   pub asks_along : (errand : Errand) (second : ℕ) → second ≡ second_of before.config
-      → ((at : AtTake) → at.config ≡ before.config → AsksAs (plan_of errand at.second) (plan at before.mount request)) → AsksAlong (plan_of errand second)
-  asks_along errand second stamped asks run came answers = ap (λ n. plan_of errand n answers) stamped ∙ asks (at_run run) refl answers
+      → ((at : AtTake) → at.config ≡ before.config → at.second ≡ second → AsksAs (plan_over errand at.contents at.second) (plan at before.mount request))
+      → AsksAlong (λ contents. plan_over errand contents second)
+  asks_along errand second stamped asks run came answers =
+      ap (λ n. plan_over errand (contents_of run.store) n answers) stamped ∙ asks (at_run run) refl (sym stamped) answers
 
   -- the request is performed so, by these observations
   abbrev call_of : List Observed → Ending → Call
@@ -64,17 +100,19 @@ module _ (before : SerialState) (request : Request) (is : IsMount before.mount) 
   is_mount run came = subst IsMount came.mount is
 
   -- walked to its end
-  pub served : (asked : Plan) (seen : List Observed) (after : Counted) (answer : Reply) (left : MountModel)
-      → AsksAlong asked → Walks asked before.store seen after → Completes asked seen
+  pub served : (asked : Contents → Plan) (seen : List Observed) (after : Counted) (answer : Reply) (left : MountModel)
+      → AsksAlong asked
+      → ((run : RunState) → CameTo run before → Walks (asked (contents_of run.store)) before.store seen after × Completes (asked (contents_of run.store)) seen)
       → ((run : RunState) → CameTo run before → answer ≡ reply_to (at_run run) before.mount request seen)
       → ((run : RunState) → CameTo run before → left ≡ mount_after (at_run run) before.mount request seen)
       → ServesOne before request answer (record before { mount = left; store = after })
-  served asked seen after answer left asks walked ends answered leaves run came =
+  served asked_in seen after answer left asks walked answered leaves run came =
+      let asked : Plan = asked_in (contents_of run.store) in
       let same = subst (λ (m : MountModel). AsksAs asked (plan (at_run run) m request)) came.mount (asks run came) in
-      let w = walked run.store came.store in
+      let w = (walked run came).0 run.store came.store in
       let lawful : IsLawful before.config run (call_of seen performed) = record {
         observed = Observes-asked asked (plan_at before.config run request) same run.store seen w.0;
-        ends = Completes-asked asked (plan_at before.config run request) same seen ends;
+        ends = Completes-asked asked (plan_at before.config run request) same seen (walked run came).1;
       } in
       let reached : record { mount = left; store = after_operations run.store seen } ≡ state_after_call before.config run (call_of seen performed) =
       ap (λ (m : MountModel). record { mount = m; store = after_operations run.store seen })
@@ -88,13 +126,15 @@ module _ (before : SerialState) (request : Request) (is : IsMount before.mount) 
           answered = answered run came ∙ ap (λ (m : MountModel). reply_to (at_run run) m request seen) came.mount;
           left = reached;
         };
-        came = came_to before.config run (call_of seen performed) _ _ (is_mount run came) came.store.start lawful came.files reached refl w.1;
+        came = came_to before.config run (call_of seen performed) (is_mount run came) lawful came.store.start before came _ _ reached refl w.1;
       }
 
   -- stopped short
-  pub stopped : (asked : Plan) (after : Counted) → AsksAlong asked → Stops asked before.store after
+  pub stopped : (asked : Contents → Plan) (after : Counted) → AsksAlong asked → ((run : RunState) → CameTo run before → Stops (asked (contents_of run.store)) before.store after)
       → ServesOne before request (Error enomem) (record before { store = after })
-  stopped asked after asks stops run came =
+  stopped asked_in after asks stops_in run came =
+      let asked : Plan = asked_in (contents_of run.store) in
+      let stops = stops_in run came in
       let same = subst (λ (m : MountModel). AsksAs asked (plan (at_run run) m request)) came.mount (asks run came) in
       let w = stops.walked run.store came.store in
       let planned = Planned-observed asked run.store stops.seen w.0 in
@@ -105,13 +145,13 @@ module _ (before : SerialState) (request : Request) (is : IsMount before.mount) 
       record {
         left = record { mount = run.mount; store = after_operations run.store stops.seen };
         performs = record { seen = stops.seen; ending = short; lawful = lawful; answered = refl; left = refl };
-        came = came_to before.config run (call_of stops.seen short) _ _ (is_mount run came) came.store.start lawful came.files refl came.mount w.1;
+        came = came_to before.config run (call_of stops.seen short) (is_mount run came) lawful came.store.start before came _ _ refl came.mount w.1;
       }
 
   -- it wants bytes of a source, and memory for them was refused
-  pub unread_for_memory : (wanted : Wanted) → wants before.mount request ≡ Some wanted → ServesOne before request (Error enomem) before
+  pub unread_for_memory : (wanted : Wanted) → wants before.config before.mount request ≡ Some wanted → ServesOne before request (Error enomem) before
   unread_for_memory wanted wanting run came =
-      let reads = may_read_wanted (at_run run) run.mount request wanted (subst (λ (m : MountModel). wants m request ≡ Some wanted) came.mount wanting) in
+      let reads = may_read_wanted before.config (at_run run) run.mount request wanted (subst (λ (m : MountModel). wants before.config m request ≡ Some wanted) came.mount wanting) in
       let lawful : IsLawful before.config run (call_of [] short) = record {
         observed = tt;
         ends = record { asks = λ e. reads_on reads.0 reads.1 (sym reads.2 ∙ e); harmless = tt };
@@ -126,13 +166,13 @@ module _ (before : SerialState) (request : Request) (is : IsMount before.mount) 
       reads_on source next e = cc
 
   -- it wants bytes of a source that is live no more
-  pub unread_for_good : (wanted : Wanted) → wants before.mount request ≡ Some wanted → IsGone before.store.bucket wanted → ServesOne before request (Error estale) before
+  pub unread_for_good : (wanted : Wanted) → wants before.config before.mount request ≡ Some wanted → IsGone before.store.bucket wanted → ServesOne before request (Error estale) before
   unread_for_good wanted wanting gone run came =
       let lawful : IsLawful before.config run (call_of [] stale) = record {
         observed = tt;
         ends = record {
           wanted = wanted;
-          wants_it = subst (λ (m : MountModel). wants m request ≡ Some wanted) came.mount wanting;
+          wants_it = subst (λ (m : MountModel). wants before.config m request ≡ Some wanted) came.mount wanting;
           gone = subst (λ (b : BucketState). IsGone b wanted) came.store.bucket gone;
           silent = refl;
         };
@@ -144,9 +184,9 @@ module _ (before : SerialState) (request : Request) (is : IsMount before.mount) 
       }
 
   -- stopped, on the way or at what it wants of a source
-  pub stopped_so : (asked : Plan) (wanted : Option Wanted) (after : Counted) (why : Stopped) → AsksAlong asked → wanted ≡ wants before.mount request
+  pub stopped_so : (asked : Contents → Plan) (wanted : Option Wanted) (after : Counted) (why : Stopped) → AsksAlong asked → wanted ≡ wants before.config before.mount request
       → StopsBy asked wanted before.store after why → ServesOne before request (Error (errno_of why)) (record before { store = after })
-  stopped_so asked wanted after NoMemory asks is (inl stops) = stopped asked after asks stops
+  stopped_so asked wanted after NoMemory asks is (inl stops) = stopped asked after asks (λ run came. stops (contents_of run.store))
   stopped_so asked (Some wanted) after NoMemory asks is (inr (same, some)) =
       subst (λ (s : Counted). ServesOne before request (Error enomem) (record before { store = s })) (sym same) (unread_for_memory wanted (sym is))
   stopped_so asked None after NoMemory asks is (inr (same, some)) = absurd cc
@@ -186,10 +226,11 @@ refused_stops mount request errno refused =
     ∙ ap (λ (error : Option ℕ). not (is_some error)) refused
 
 -- a request that is refused asks nothing and leaves all as it was
-pub refused : (before : SerialState) (request : Request) (errno : ℕ) → IsMount before.mount → early before.mount request ≡ Some errno → ServesOne before request (Error errno) before
+refused : (before : SerialState) (request : Request) (errno : ℕ) → IsMount before.mount → early before.mount request ≡ Some errno → ServesOne before request (Error errno) before
 refused before request errno is_mount is =
-    served before request is_mount (λ answers. done) [] before.store (Error errno) before.mount (λ run came answers. ap without_reads (sym (ap (λ (p : Plan). p answers) (asks (at_state before.config run)))))
-    (Walks-none (λ answers. done) before.store) tt (λ run came. sym (answers (at_state before.config run))) (λ run came. sym (leaves (at_state before.config run)))
+    served before request is_mount (λ contents answers. done) [] before.store (Error errno) before.mount
+    (λ run came answers. ap without_reads (sym (ap (λ (p : Plan). p answers) (asks (at_state before.config run)))))
+    (λ run came. (Walks-none (λ answers. done) before.store, tt)) (λ run came. sym (answers (at_state before.config run))) (λ run came. sym (leaves (at_state before.config run)))
   where
     stops : goes_on before.mount request ≡ false
     stops = refused_stops before.mount request errno is
@@ -205,3 +246,48 @@ refused before request errno is_mount is =
 
     leaves : (at : AtTake) → mount_after at before.mount request [] ≡ before.mount
     leaves at = ap (λ (on : Bool). if on then (rules_of request).after (taken_at at before.mount request) before.mount [] else before.mount) stops
+
+-- one that is refused for want of blocks is performed, and observes nothing
+refused_full : (before : SerialState) (request : Request) → IsMount before.mount → early before.mount request ≡ None → is_full before.config before.mount request ≡ true
+    → ServesOne before request (Error enospc) before
+refused_full before request is_mount free full =
+    served before request is_mount asked [] before.store (Error enospc) before.mount (λ run came answers. refl)
+    (λ run came. (Walks-none (asked (contents_of run.store)) before.store, ends_with (plan (at_state before.config run) before.mount request []) (refused_at run).ends))
+    (λ run came. sym (refused_at run).answered) (λ run came. sym (refused_at run).left)
+  where
+    asked : Contents → Plan
+    asked contents answers = without_reads (plan (record { config = before.config; second = second_of before.config; contents = contents }) before.mount request answers)
+
+    refused_at : (run : RunState) → IsRefusedFull (at_state before.config run) before.mount request
+    refused_at run = full_is_refused (at_state before.config run) before.mount request free full
+
+-- what refuses a request at its take: its own rules, or want of blocks
+abbrev taken_by : Option ℕ → Bool → Option ℕ
+taken_by error full = option_map_or Some error (if full then Some enospc else None)
+
+pub refused_taken : (before : SerialState) (request : Request) (errno : ℕ) → IsMount before.mount → refused_at_take before.config before.mount request ≡ Some errno
+    → ServesOne before request (Error errno) before
+refused_taken before request errno is_mount is = by (early before.mount request) refl (is_full before.config before.mount request) refl is
+  where
+    by : (error : Option ℕ) → early before.mount request ≡ error → (full : Bool) → is_full before.config before.mount request ≡ full → taken_by error full ≡ Some errno
+        → ServesOne before request (Error errno) before
+    by (Some e) early_is full full_is told = refused before request errno is_mount (early_is ∙ told)
+    by None early_is true full_is told =
+        subst (λ n. ServesOne before request (Error n) before) (let same : enospc ≡ errno = cc in same) (refused_full before request is_mount early_is full_is)
+    by None early_is false full_is told = absurd (let never : None ≡ Some errno = told in cc)
+
+-- where nothing refuses it, neither does
+pub free_early : (config : Config) (mount : MountModel) (request : Request) → refused_at_take config mount request ≡ None → early mount request ≡ None
+free_early config mount request free = by (early mount request) free
+  where
+    by : (error : Option ℕ) → taken_by error (is_full config mount request) ≡ None → error ≡ None
+    by None e = refl
+    by (Some errno) e = absurd (let never : Some errno ≡ None = e in cc)
+
+pub free_full : (config : Config) (mount : MountModel) (request : Request) → refused_at_take config mount request ≡ None → is_full config mount request ≡ false
+free_full config mount request free = by (early mount request) (is_full config mount request) free
+  where
+    by : (error : Option ℕ) (full : Bool) → taken_by error full ≡ None → full ≡ false
+    by None true e = absurd (let never : Some enospc ≡ None = e in cc)
+    by None false e = refl
+    by (Some errno) full e = absurd (let never : Some errno ≡ None = e in cc)

@@ -112,6 +112,11 @@ ends_without done ends = ends
 ends_without (ask op) ends = ends
 ends_without (may_read source step) ends = ends_without step ends
 
+pub ends_with : (step : Step) → MayEnd step → MayEnd (without_reads step)
+ends_with done ends = ends
+ends_with (ask op) ends = ends
+ends_with (may_read source step) ends = ends_with step ends
+
 -- what was observed along a plan was observed along one that asks the same
 pub Observes-asked : (asked plan : Plan) → AsksAs asked plan → (store : Store) (seen : List Observed) → Observes asked store seen → Observes plan store seen
 Observes-asked asked plan is store [] observed = tt

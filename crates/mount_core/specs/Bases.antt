@@ -1,5 +1,5 @@
 -- What a request wants of the source of its file, and what it got.
-use Rattle.std.specs.Prelude.{◌≡◌, ℕ, Option, Some, None, IsSome, ◌⊎◌}
+use Rattle.std.specs.Prelude.{◌≡◌, ◌≤◌, ◌+◌, ℕ, [], length, Option, Some, None, IsSome, ◌⊎◌}
 use Rattle.bucket_api.specs.BucketState.{BucketState, object_of}
 use Rattle.bucket_api.specs.declared.objects.Object.{Object}
 use Rattle.fuse_replies.specs.Errno.{enomem, estale}
@@ -7,9 +7,10 @@ use Rattle.mount_core.specs.Stores.{Counted}
 use Rattle.mount_core.specs.Walks.{Stops}
 use Rattle.mount_core.specs.declared.stopped.Stopped.{Stopped}
 use Rattle.mount_core.specs.declared.stopped.Stopped.TheVariants.{NoMemory, Stale}
-use Rattle.mount_rules.specs.Plans.{Plan, Wanted}
+use Rattle.mount_rules.specs.Plans.{Contents, Plan, Wanted}
 use Rattle.mount_rules.specs.Reading.{bytes_in}
 use Rattle.mount_state.specs.declared.base.Base.{Base}
+use Rattle.staging_spec.specs.Slices.{Holds}
 
 -- the bucket has the generation that is wanted, as this object
 abbrev pub HasLive : BucketState → Wanted → Object → Type 0
@@ -26,9 +27,20 @@ pub record IsRead (bucket : BucketState) (wanted : Wanted) (base : Base) : Type 
   pub first : base.first ≡ wanted.range.first
   pub bytes : base.bytes ≡ bytes_in wanted.range object.content
 
+-- nothing was read where nothing is wanted
 abbrev pub HasRead : BucketState → Option Wanted → Base → Type 0
-HasRead bucket None base = Unit {0}
+HasRead bucket None base = base.bytes ≡ []
 HasRead bucket (Some wanted) base = IsRead bucket wanted base
+
+-- the base has bytes of the generation of which some are wanted, as it is in these contents
+abbrev pub HoldsBase : Contents → Option Wanted → Base → Type 0
+HoldsBase contents None base = base.bytes ≡ []
+HoldsBase contents (Some wanted) base = Holds (contents wanted.name wanted.generation) base.first base.bytes
+
+-- where the generation is live that is wanted, all bytes are there that are wanted of it
+abbrev pub HasBytes : BucketState → Option Wanted → Type 0
+HasBytes bucket None = Unit {0}
+HasBytes bucket (Some wanted) = (o : Object) → HasLive bucket wanted o → wanted.range.first + wanted.range.count ≤ length o.content
 
 -- nothing was read: memory was refused, or the generation is gone
 abbrev pub WhyNot : BucketState → Option Wanted → Stopped → Type 0
@@ -36,9 +48,9 @@ WhyNot bucket None why = ⊥
 WhyNot bucket (Some wanted) NoMemory = Unit {0}
 WhyNot bucket (Some wanted) Stale = IsGone bucket wanted
 
--- a request stopped on the way along its plan, or at what it wants of a source
-abbrev pub StopsBy : Plan → Option Wanted → Counted → Counted → Stopped → Type 0
-StopsBy plan wanted before after NoMemory = Stops plan before after ⊎ ((after ≡ before) × IsSome wanted)
+-- a request stopped on the way along its plan, whatever generations hold, or at what it wants of a source
+abbrev pub StopsBy : (Contents → Plan) → Option Wanted → Counted → Counted → Stopped → Type 0
+StopsBy plan wanted before after NoMemory = ((contents : Contents) → Stops (plan contents) before after) ⊎ ((after ≡ before) × IsSome wanted)
 StopsBy plan wanted before after Stale = (after ≡ before) × WhyNot before.bucket wanted Stale
 
 abbrev pub errno_of : Stopped → ℕ

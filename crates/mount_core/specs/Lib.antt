@@ -2,6 +2,7 @@
 pub mod Bases
 pub mod Codes
 pub mod Errands
+pub mod Metadatas
 pub mod SeenList
 pub mod SeenRows
 pub mod Serials

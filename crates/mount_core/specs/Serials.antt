@@ -3,10 +3,11 @@ use Rattle.std.specs.Prelude.{◌≡◌}
 use Rattle.bucket_api.specs.BucketState.{BucketState}
 use Rattle.fuse_replies.specs.declared.reply.Reply.{Reply}
 use Rattle.fuse_requests.specs.declared.request.Request.{Request}
+use Rattle.mount_core.specs.Metadatas.{GivesMetadata}
 use Rattle.mount_core.specs.Stores.{Counted, LeavesBucket}
 use Rattle.mount_model.specs.Configs.{IsConfig}
 use Rattle.mount_model.specs.declared.config.Config.{Config}
-use Rattle.mount_rules.specs.Laws.{FilesHaveContent}
+use Rattle.mount_rules.specs.Laws.{FilesHaveContent, StagedStandOver}
 use Rattle.mount_rules.specs.Mount.{MountModel, first_mount}
 use Rattle.mount_rules.specs.OneThread.{Performs, RunState}
 use Rattle.mount_state.specs.Mounts.{MountState}
@@ -23,11 +24,13 @@ abbrev pub first_serial : Config → BucketState → SerialState
 first_serial config bucket = record { config = config; mount = first_mount; store = record { bucket = bucket; made = 0 } }
 
 -- A run came to this mount, by a log that leaves this bucket. What the files show was live in it, with content of their
--- sizes.
+-- sizes; what is staged stands over that; and what a flush gives as metadata may be given.
 pub record CameTo (run : RunState) (serial : SerialState) : Type 0 where
   pub mount : serial.mount ≡ run.mount
   pub store : LeavesBucket run.store serial.store
   pub files : FilesHaveContent run
+  pub staged : StagedStandOver run
+  pub metadata : GivesMetadata run.mount
 
 -- one more request of a run is performed, or ends otherwise, and what it leaves came to this
 pub record GoesOn (run : RunState) (config : Config) (request : Request) (answer : Reply) (after : SerialState) : Type 0 where

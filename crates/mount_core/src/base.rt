@@ -1,8 +1,9 @@
 //! What a request wants of the source of its file.
-ghost use Rattle.std.specs.Prelude.{◌≡◌, ℕ, List, IfErr, IfOk};
+ghost use Rattle.std.specs.Prelude.{◌≡◌, ℕ, List, IfErr, IfOk, length};
 ghost use Rattle.bucket_api.specs.Operation.{operation, read};
-ghost use Rattle.mount_core.specs.Bases.{HasRead, WhyNot};
+ghost use Rattle.mount_core.specs.Bases.{HasBytes, HasRead, WhyNot};
 ghost use Rattle.mount_core.specs.Errands.{wanted_of, IsErrand};
+ghost use Rattle.mount_rules.specs.Plans.{CoversWanted};
 
 use crate::errand::Errand;
 use crate::stopped::Stopped;
@@ -11,10 +12,13 @@ use bucket_api::{Answer, Op};
 use mount_state::Base;
 use std::alloc::Global;
 
-/// The bytes of its source that an errand wants, as the bucket holds them. `Stale` where the source is live no more.
+/// The bytes of its source that an errand wants, as the bucket holds them: all of them are there while it is live. `Stale`
+/// where the source is live no more.
 pub(crate) fn base_of(alloc: Global, errand: &Errand, store: &mut Store) -> Result<Base, Stopped>
-    requires { IsErrand errand.now }
+    requires errand { IsErrand errand.now }
+    requires bytes { HasBytes store.old.bucket (wanted_of errand.now) }
     ensures ok { IfOk result (λ base. HasRead store.old.bucket (wanted_of errand.now) base) }
+    ensures covers { IfOk result (λ base. CoversWanted (wanted_of errand.now) base.first (length base.bytes)) }
     ensures err { IfErr result (λ why. WhyNot store.old.bucket (wanted_of errand.now) why) }
     ensures kept { store.new ≡ store.old }
 {

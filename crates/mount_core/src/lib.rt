@@ -3,6 +3,9 @@
 
 mod base;
 mod errand;
+mod files;
+mod insert;
+mod names;
 mod observe;
 mod seen;
 mod serial;

@@ -1,12 +1,13 @@
 //! The mount on one thread.
-ghost use Rattle.std.specs.Prelude.{◌≡◌, ◌^◌, None, IfOk, OnOk, OnErr};
+ghost use Rattle.std.specs.Prelude.{◌≡◌, ◌^◌, false, None, IfOk, OnOk, OnErr};
 ghost use Rattle.bucket_api.specs.BucketState.{IsWithin};
 ghost use Rattle.fuse_replies.specs.Replies.{IsSendable, without_spare as reply_without_spare};
 ghost use Rattle.fuse_requests.specs.Grammar.{without_spare};
 ghost use Rattle.mount_core.specs.Serials.{first_serial, ServesOne};
 ghost use Rattle.mount_model.specs.Configs.{IsConfig};
-ghost use Rattle.mount_rules.specs.Dispatch.{early};
-ghost use Rattle.mount_rules.specs.Laws.{CountsDecide, NumbersRise, ReadsAreOfSource, ShortAreOutOfMemory};
+ghost use Rattle.mount_rules.specs.Dispatch.{early, is_full};
+ghost use Rattle.mount_rules.specs.Laws.{CountsDecide, FlushesAreGuarded, NumbersRise, ReadsAreOfContent, ShortAreOutOfMemory, StagingIsBounded, WritesPatch};
+ghost use Rattle.mount_rules.specs.Mount.{IsMount};
 ghost use Rattle.mount_rules.specs.OneThread.{second_of};
 
 use crate::errand::Errand;
@@ -46,19 +47,24 @@ impl Model for Serial {
 }
 
 impl Serial {
-    /// A mount before its first request, over this bucket, whose generations and metagenerations are at most 2^62.
-    /// `NoMemory` where memory for the root was refused; then the bucket is dropped.
+    /// A mount before its first request, over this bucket, whose generations and metagenerations are at most 2^62. It takes
+    /// the memory of all blocks for staged contents at once. `NoMemory` where memory for these or for the root was refused;
+    /// then the bucket is dropped.
     pub fn new(alloc: Global, config: &Config, bucket: Plain) -> Result<Serial, NoMemory>
         requires config { IsConfig config.now }
         requires within { IsWithin (2 ^ 62) bucket }
         ensures ok { IfOk result (λ serial. serial ≡ first_serial config.now bucket) }
         // What any list of calls then comes to: a node is live while the kernel holds look-ups of it, numbers are given
-        // once, the calls answered ENOMEM are those that stopped short, and bytes that are read are those of the file's
-        // source.
+        // once, and the calls answered ENOMEM are those that stopped short; bytes that are read are those of the file's
+        // content, bytes that are written stand in it, staged contents never touch more blocks than there are, and a
+        // flush makes one new generation of what is staged only where the one that the file shows is live.
         ensures counts { OnOk result CountsDecide }
         ensures numbers { OnOk result NumbersRise }
         ensures short { OnOk result ShortAreOutOfMemory }
-        ensures reads { OnOk result ReadsAreOfSource }
+        ensures reads { OnOk result ReadsAreOfContent }
+        ensures writes { OnOk result WritesPatch }
+        ensures bounded { OnOk result StagingIsBounded }
+        ensures flushes { OnOk result FlushesAreGuarded }
     {
         Ok(Serial {
             config: *config,
@@ -92,7 +98,9 @@ impl Serial {
 
     /// Performs a request that isn't refused.
     fn perform(&mut self, alloc: Global, request: &Request) -> Result<Reply, NoMemory>
-        requires { early self.old.mount (without_spare request.now) ≡ None }
+        requires valid { IsMount self.old.mount }
+        requires free { early self.old.mount (without_spare request.now) ≡ None }
+        requires fits { is_full self.old.config self.old.mount (without_spare request.now) ≡ false }
         ensures ok { IfOk result (λ reply. ServesOne self.old (without_spare request.now) (reply_without_spare reply) self.new) }
         ensures sendable { IfOk result (λ reply. IsSendable (reply_without_spare reply)) }
         ensures config { self.new.config ≡ self.old.config }
@@ -100,17 +108,10 @@ impl Serial {
     {
         let second = self.second();
         let implicit = self.config.implicit_dirs;
-        let errand = Errand::of(alloc, &self.config, &self.mount, request)?;
+        let errand = Errand::of(alloc, &self.config, &self.mount, second, request)?;
         let mut spare = self.mount.prepare(alloc, request)?;
-        match observe(
-            alloc,
-            &errand,
-            second,
-            implicit,
-            &mut self.store,
-            &mut spare,
-        ) {
-            Ok((seen, base)) => Ok(self.mount.finish(request, spare, seen, base)),
+        match observe(alloc, errand, second, implicit, &mut self.store, &mut spare) {
+            Ok((seen, base)) => Ok(self.mount.finish(second, request, spare, seen, base)),
             Err(stopped) => {
                 self.mount.forgo(spare);
                 Ok(Reply::Error(stopped.errno()))

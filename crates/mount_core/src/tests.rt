@@ -1,18 +1,21 @@
 //! Names, directories and handles on a mount over a bucket that holds objects. What is expected comes from outside: errno
 //! numbers of Linux, modes of `stat`, types and lengths of directory entries of fuse.h and dirent.h, and what gcsfuse shows
 //! of such objects.
+mod beside;
+mod staged;
 mod steps;
 
 ghost use Rattle.std.specs.Prelude.{◌<◌, ◌+◌, ◌^◌, IfOk, OnOk};
 ghost use Rattle.bucket_api.specs.BucketState.{IsWithin};
 ghost use Rattle.bucket_api.specs.Metadata.{KeysRise};
-ghost use Rattle.bucket_api.specs.Operation.{IsAllowed, operation};
 
 use crate::Serial;
+use beside::Act::{Play, Replace};
 use bucket_api::{Op, Pair, allowed};
 use bucket_plain::Plain;
 use io_ports::{Bytes, NoMemory, Row, Text};
 use mount_model::Config;
+use staged::acts_over;
 use std::alloc::Global;
 use std::process::Abort;
 use std::test::Fail;
@@ -50,14 +53,14 @@ fn put<R: Abort + AllocGlobal>(
 }
 
 /// No pairs: their keys rise.
-fn no_pairs(alloc: Global) -> Row<Pair>
+pub(crate) fn no_pairs(alloc: Global) -> Row<Pair>
     ensures { KeysRise result.items }
 {
     Row::new(alloc)
 }
 
 /// A bucket that holds these objects.
-fn holding<R: Abort + AllocGlobal>(rt: &R, names: &[&str]) -> Result<Plain, NoMemory>
+pub(crate) fn holding<R: Abort + AllocGlobal>(rt: &R, names: &[&str]) -> Result<Plain, NoMemory>
     ensures { IfOk result (λ bucket. IsWithin (2 ^ 62) bucket) }
 {
     assert!(rt; names.len() < 1000);
@@ -249,27 +252,6 @@ fn a_file_is_read_by_its_handles(rt: HostRuntime) -> Result<(), Fail> {
     Ok(())
 }
 
-/// The insert of another writer: it replaces an object by one of the bytes `world`, or makes it.
-fn insert_of_world<R: Abort + AllocGlobal>(rt: &R, name: &str) -> Result<Op, NoMemory>
-    ensures { IfOk result (λ op. IsAllowed (operation op)) }
-{
-    assert!(rt; allowed(name));
-    Ok(Op::Insert {
-        name: Text::of(rt.alloc(), name)?,
-        content: Bytes::of(rt.alloc(), b"world")?,
-        pairs: no_pairs(rt.alloc()),
-        only: None,
-        stamp: 7,
-    })
-}
-
-/// Another writer replaces an object in the bucket of the mount.
-fn replace<R: Abort + AllocGlobal>(rt: &R, mount: &mut Serial, name: &str) -> Result<(), NoMemory> {
-    let op = insert_of_world(rt, name)?;
-    mount.store.make(rt.alloc(), &op)?;
-    Ok(())
-}
-
 /// A file that is open and was read.
 const BEFORE: &[Step<'static>] = &[
     (Init, Agreed),
@@ -294,11 +276,8 @@ const AFTER: &[Step<'static>] = &[
 
 #[test]
 fn a_replaced_file_is_stale_through_its_old_handle(rt: HostRuntime) -> Result<(), Fail> {
-    let config = Config::new();
-    let mut mount = Serial::new(rt.alloc(), &config, holding(&rt, &["f"])?)?;
-    plays(&rt, &mut mount, BEFORE)?;
-    replace(&rt, &mut mount, "f")?;
-    plays(&rt, &mut mount, AFTER)?;
+    let all = [Play(BEFORE), Replace("world"), Play(AFTER)];
+    acts_over(&rt, &["f"], 1, &all)?;
     Ok(())
 }
 

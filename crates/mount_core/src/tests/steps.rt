@@ -1,7 +1,7 @@
 //! Requests and what their replies show, as plain data, and a mount that is asked one after the other.
 use crate::Serial;
 use fuse_replies::errno::ENOMEM;
-use fuse_replies::{Dirent, EntryOut, Reply};
+use fuse_replies::{AttrOut, Dirent, EntryOut, Reply};
 use fuse_requests::{Forgotten, Request};
 use io_ports::{Bytes, NoMemory, Row};
 use std::alloc::Global;
@@ -27,6 +27,14 @@ pub(crate) enum Ask<'a> {
     Open(u64),
     /// Of a file by a handle, from a place on, and of so many bytes.
     Read(u64, u64, u64, u32),
+    /// Of a file by a handle, from a place on.
+    Write(u64, u64, u64, &'a str),
+    Flush(u64, u64),
+    Fsync(u64, u64),
+    /// The length of a node.
+    Resize(u64, u64),
+    /// The time of a node, in seconds and nanoseconds.
+    Touch(u64, u64, u32),
     Release(u64, u64),
     /// Of nodes, and how many look-ups of each are given back.
     BatchForget(&'a [(u64, u64)]),
@@ -50,8 +58,12 @@ pub(crate) enum Told<'a> {
     Opened(u64),
     /// A file, by its node, how many bytes it has, and how many names.
     Attr(u64, u64, u32),
+    /// A file with one name, by its node: how many bytes it has, and its time in seconds and nanoseconds.
+    Shown(u64, u64, u64, u32),
     /// Bytes that were read.
     Content(&'a str),
+    /// So many bytes were written.
+    Wrote(u32),
     /// The entries of a directory: the position behind each, its type and its name.
     Entries(&'a [(u64, u32, &'a str)]),
     /// The request failed.
@@ -102,6 +114,28 @@ impl Ask<'_> {
                 first,
                 size,
             },
+            Ask::Write(node, fh, first, content) => Request::Write {
+                node,
+                fh,
+                first,
+                content: Bytes::of(alloc, content.as_bytes())?,
+            },
+            Ask::Flush(node, fh) => Request::Flush { node, fh },
+            Ask::Fsync(node, fh) => Request::Fsync { node, fh },
+            Ask::Resize(node, size) => Request::Setattr {
+                node,
+                valid: 8,
+                size,
+                mtime: 0,
+                nanos: 0,
+            },
+            Ask::Touch(node, mtime, nanos) => Request::Setattr {
+                node,
+                valid: 32,
+                size: 0,
+                mtime,
+                nanos,
+            },
             Ask::Release(node, fh) => Request::Release { node, fh },
             Ask::BatchForget(pairs) => Request::BatchForget {
                 pairs: forgotten(alloc, pairs)?,
@@ -120,12 +154,16 @@ impl Ask<'_> {
                 | Ask::Getattr(..)
                 | Ask::Open(..)
                 | Ask::Read(..)
+                | Ask::Write(..)
+                | Ask::Flush(..)
+                | Ask::Fsync(..)
+                | Ask::Touch(..)
         )
     }
 
     /// The request wants memory, so it may be refused it.
     fn wants_memory(self) -> bool {
-        self.asks_the_bucket() || matches!(self, Ask::Readdir(..))
+        self.asks_the_bucket() || matches!(self, Ask::Readdir(..) | Ask::Resize(..))
     }
 }
 
@@ -193,15 +231,26 @@ fn shows(reply: &Reply, told: Told<'_>) -> bool {
         Reply::Dirents(entries) => {
             matches!(told, Told::Entries(expected) if are(entries.as_slice(), expected))
         }
-        Reply::Attr(attr) => {
-            matches!(told, Told::Attr(node, size, nlink) if (attr.ino, attr.size, attr.nlink) == (node, size, nlink))
-        }
+        Reply::Attr(attr) => shows_attributes(attr, told),
+        Reply::Written(count) => matches!(told, Told::Wrote(expected) if *count == expected),
         Reply::Content(bytes) => {
             matches!(told, Told::Content(expected) if bytes.as_slice() == expected.as_bytes())
         }
         Reply::Error(errno) => matches!(told, Told::Errno(expected) if *errno == expected),
         Reply::Empty => matches!(told, Told::Done),
         Reply::Silent => matches!(told, Told::Silence),
+        _ => false,
+    }
+}
+
+/// Attributes are as expected.
+fn shows_attributes(attr: &AttrOut, told: Told<'_>) -> bool {
+    match told {
+        Told::Attr(node, size, nlink) => (attr.ino, attr.size, attr.nlink) == (node, size, nlink),
+        Told::Shown(node, size, mtime, nanos) => {
+            (attr.ino, attr.size, attr.nlink) == (node, size, 1)
+                && (attr.mtime, attr.nanos) == (mtime, nanos)
+        }
         _ => false,
     }
 }

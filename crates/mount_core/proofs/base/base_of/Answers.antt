@@ -19,6 +19,7 @@ returns-in_err-bytes-clause-err c =
 pub returns : goal.returns
 returns c = record {
   ok = tt;
+  covers = tt;
   err = gone_so c.args.store.now.bucket (wanted_of c.args.errand.now) (operation c.in-Some.op) c.in_ok-bytes.field-0
       (ap (option_map operation) (sym c.in-Some.is) ∙ c.in_ok-op.ensures.ok) c.in_ok-bytes.ensures.ok c.in_default-2.not-Bytes;
   kept = c.in_ok-bytes.ensures.kept;

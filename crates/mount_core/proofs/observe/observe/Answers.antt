@@ -1,20 +1,15 @@
--- A walk that stopped is short, and so is a listing whose entries found no memory.
-use Rattle.std.proofs.Common.{subst, inl}
-use Rattle.std.proofs.lemmas.Result.{err_from_is_err_and}
-use Rattle.mount_core.proofs.HarmlessLemmas.{Stops-asking, Stops-listed}
-use Rattle.mount_core.specs.Errands.{plan_of}
+-- What was read holds what is wanted, so the errand was walked over all contents that do.
+use Rattle.std.proofs.Common.{List, subst, sym}
+use Rattle.mount_core.proofs.BaseLemmas.{holds_base}
+use Rattle.mount_core.specs.Errands.{plan_over, wanted_of}
 use Rattle.mount_core.specs.Stores.{Counted}
-use Rattle.mount_core.specs.Walks.{Stops}
+use Rattle.mount_core.specs.Walks.{Walks}
+use Rattle.mount_model.specs.Observing.{Observed}
 use Rattle.mount_core.proofs.observe.observe.Goals as goal
 
-pub returns-in_err-seen-clause-err : goal.returns-in_err-seen-clause-err
-returns-in_err-seen-clause-err c =
-    let p = err_from_is_err_and c.from_residual-in_err-seen.result c.from_residual-in_err-seen.ensures.1 in
-    rw (p.1, p.2) (inl (subst (λ (s : Counted). Stops (plan_of c.args.errand.now c.args.second) s c.walk.new.store) c.in_ok-base.ensures.kept
-    (Stops-asking c.args.errand.now c.args.second c.base_of.new.store c.walk.new.store c.in_err-seen.ensures.err)))
-
-pub returns-in_err-spare-inside-clause-err : goal.returns-in_err-spare-inside-clause-err
-returns-in_err-spare-inside-clause-err c =
-    let p = err_from_is_err_and c.from_residual-in_err-spare-inside.result c.from_residual-in_err-spare-inside.ensures.1 in
-    rw (p.1, p.2) (inl (subst (λ (s : Counted). Stops (plan_of c.args.errand.now c.args.second) s c.walk.new.store) c.in_ok-base.ensures.kept
-    (Stops-listed c.args.errand.now c.args.second c.base_of.new.store c.walk.new.store c.in_ok-seen.seen.items c.in_err-spare-inside.ensures.err c.in_ok-seen.ensures.ok)))
+pub returns-clause-ok : goal.returns-clause-ok
+returns-clause-ok c = λ contents holds.
+    let plan = plan_over c.args.errand contents c.args.second in
+    let walked = c.in_ok-seen.ensures.ok contents (holds_base contents c.args.store.now.bucket (wanted_of c.args.errand) c.in_ok-base.base c.in_ok-base.ensures.ok holds) in
+    subst (λ (seen : List Observed). Walks plan c.args.store.now seen c.carry_out.new.store) (sym c.into_row.ensures)
+    (subst (λ (before : Counted). Walks plan before c.in_ok-seen.seen.items c.carry_out.new.store) c.in_ok-base.ensures.kept walked)

@@ -1,5 +1,5 @@
 -- The plan's next operation is made, or the plan may end.
-use Rattle.std.proofs.Common.{◌≡◌, ap, subst, refl, ◌∙◌}
+use Rattle.std.proofs.Common.{◌≡◌, [], ap, subst, refl, ◌∙◌}
 use Rattle.bucket_api.specs.Operation.{operation}
 use Rattle.mount_core.proofs.WalkLemmas.{Asked-more, asked_next, ends_next, observed_so}
 use Rattle.mount_core.specs.Errands.{plan_of}
@@ -11,14 +11,14 @@ use Rattle.mount_core.proofs.walk.step.Goals as goal
 
 pub returns-in-Finish-clause-ok : goal.returns-in-Finish-clause-ok
 returns-in-Finish-clause-ok c =
-    let plan = plan_of c.args.errand.now c.args.second in
+    let plan = plan_of c.args.errand.now [] c.args.second in
     let step = plan (answers_of c.args.seen.now.items) in
     let told : next_step c.in_ok-op.field-0 ≡ next_of step = c.in_ok-op.ensures.ok ∙ ap (λ answers. next_of (plan answers)) c.answers.ensures in
     record { ends = ends_next step (subst (λ n. next_step n ≡ next_of step) c.in-Finish.is told); kept = refl; same = refl }
 
 pub returns-clause-ok : goal.returns-clause-ok
 returns-clause-ok c =
-    let plan = plan_of c.args.errand.now c.args.second in
+    let plan = plan_of c.args.errand.now [] c.args.second in
     let step = plan (answers_of c.args.seen.now.items) in
     let op = operation c.in-Do.op in
     let told : next_step c.in_ok-op.field-0 ≡ next_of step = c.in_ok-op.ensures.ok ∙ ap (λ answers. next_of (plan answers)) c.answers.ensures in
@@ -33,7 +33,7 @@ returns-clause-ok c =
 
 pub returns-clause-told : goal.returns-clause-told
 returns-clause-told c =
-    let plan = plan_of c.args.errand.now c.args.second in
+    let plan = plan_of c.args.errand.now [] c.args.second in
     let step = plan (answers_of c.args.seen.now.items) in
     let op = operation c.in-Do.op in
     let told : next_step c.in_ok-op.field-0 ≡ next_of step = c.in_ok-op.ensures.ok ∙ ap (λ answers. next_of (plan answers)) c.answers.ensures in

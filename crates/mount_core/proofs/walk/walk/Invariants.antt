@@ -1,5 +1,5 @@
 -- What was walked so far, and that the plan asked for each answer; the operations that may still be made.
-use Rattle.std.proofs.Common.{◌-◌}
+use Rattle.std.proofs.Common.{◌-◌, []}
 use Rattle.mount_core.specs.Errands.{plan_of}
 use Rattle.mount_core.specs.Stores.{most}
 use Rattle.mount_core.specs.Walks.{Walks}
@@ -9,8 +9,8 @@ use Rattle.mount_core.proofs.walk.walk.Given as goal
 
 abbrev pub invariant-loop-seen : goal.invariant-loop-seen
 invariant-loop-seen l = record {
-  walked : Walks (plan_of l.errand l.second) l.fn.store l.seen.items l.store;
-  asked : Asked (plan_of l.errand l.second) (answers_of l.seen.items);
+  walked : Walks (plan_of l.errand [] l.second) l.fn.store l.seen.items l.store;
+  asked : Asked (plan_of l.errand [] l.second) (answers_of l.seen.items);
 }
 
 abbrev pub decreases-loop-seen : goal.decreases-loop-seen

@@ -3,8 +3,11 @@ use Rattle.std.proofs.Common.{sym, ap, subst}
 use Rattle.mount_core.proofs.FirstLemmas.{came_first}
 use Rattle.mount_core.specs.Serials.{CameTo}
 use Rattle.mount_core.specs.Stores.{Counted}
-use Rattle.mount_laws.proofs.Readings.{reads_are_of_source}
+use Rattle.mount_laws.proofs.Guarded.{flushes_are_guarded}
+use Rattle.mount_laws.proofs.Readings.{reads_are_of_content}
 use Rattle.mount_laws.proofs.RunLaws.{counts_decide, numbers_rise, short_are_out_of_memory}
+use Rattle.mount_laws.proofs.Settled.{staging_is_bounded}
+use Rattle.mount_laws.proofs.Writings.{writes_patch}
 use Rattle.mount_rules.specs.Mount.{MountModel}
 use Rattle.mount_rules.specs.OneThread.{first_state}
 use Rattle.mount_state.specs.Mounts.{MountState}
@@ -34,4 +37,13 @@ pub returns-clause-short : goal.returns-clause-short
 returns-clause-short c = short_are_out_of_memory
 
 pub returns-clause-reads : goal.returns-clause-reads
-returns-clause-reads c = reads_are_of_source
+returns-clause-reads c = reads_are_of_content
+
+pub returns-clause-writes : goal.returns-clause-writes
+returns-clause-writes c = writes_patch
+
+pub returns-clause-bounded : goal.returns-clause-bounded
+returns-clause-bounded c = staging_is_bounded
+
+pub returns-clause-flushes : goal.returns-clause-flushes
+returns-clause-flushes c = flushes_are_guarded

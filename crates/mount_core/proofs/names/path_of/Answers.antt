@@ -4,7 +4,7 @@ use Rattle.mount_laws.proofs.Children.{HasPath-none}
 use Rattle.mount_rules.specs.Guards.{path_in}
 use Rattle.mount_rules.specs.View.{sight_at}
 use Rattle.object_names.specs.Paths.{IsPath}
-use Rattle.mount_core.proofs.errand.path_of.Goals as goal
+use Rattle.mount_core.proofs.names.path_of.Goals as goal
 
 pub returns-clause-path : goal.returns-clause-path
 returns-clause-path c =

@@ -1,7 +1,7 @@
 -- A path is the name of an object, and no pairs rise.
 use Rattle.std.specs.List.Sorted.{IsStrictlySortedBy}
 use Rattle.dir_listing.proofs.PathLaws.{paths_name}
-use Rattle.mount_core.proofs.errand.make.Goals as goal
+use Rattle.mount_core.proofs.names.make.Goals as goal
 
 pub returns-clause-errand : goal.returns-clause-errand
 unfolding IsStrictlySortedBy

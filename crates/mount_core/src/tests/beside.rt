@@ -1,0 +1,135 @@
+//! Requests on a mount, and beside them what another writer does in its bucket, and what stands there.
+ghost use Rattle.std.specs.Prelude.{◌≡◌, IfOk};
+ghost use Rattle.bucket_api.specs.BucketState.{BucketState};
+ghost use Rattle.bucket_api.specs.BucketStep.{state_after};
+ghost use Rattle.bucket_api.specs.Operation.{IsAllowed, operation};
+
+use crate::Serial;
+use crate::tests::no_pairs;
+use crate::tests::steps::{Step, plays};
+use bucket_api::{Answer, Op, allowed};
+use io_ports::{Bytes, NoMemory, Text};
+use std::alloc::Global;
+use std::process::Abort;
+
+/// What is done with a mount and with its bucket.
+#[derive(Clone, Copy)]
+pub(crate) enum Act<'a> {
+    /// Requests are sent.
+    Play(&'a [Step<'a>]),
+    /// Another writer replaces the object `f`, or makes it.
+    Replace(&'a str),
+    /// Another writer deletes it.
+    Remove,
+    /// It has this generation and content.
+    Holds(u64, &'a str),
+}
+
+/// Does one after the other.
+pub(crate) fn acts<R: Abort + AllocGlobal>(
+    rt: &R,
+    mount: &mut Serial,
+    acts: &[Act<'_>],
+) -> Result<(), NoMemory> {
+    for one in acts {
+        does(rt, mount, *one)?;
+    }
+    Ok(())
+}
+
+/// Does one of them.
+fn does<R: Abort + AllocGlobal>(rt: &R, mount: &mut Serial, one: Act<'_>) -> Result<(), NoMemory> {
+    match one {
+        Act::Play(steps) => plays(rt, mount, steps),
+        Act::Replace(content) => replace(rt, mount, content),
+        Act::Remove => remove(rt, mount),
+        Act::Holds(generation, content) => {
+            assert!(rt; holds(rt, mount, generation, content)?);
+            Ok(())
+        }
+    }
+}
+
+/// Another writer replaces the object `f` in the bucket of the mount, or makes it.
+fn replace<R: Abort + AllocGlobal>(
+    rt: &R,
+    mount: &mut Serial,
+    content: &str,
+) -> Result<(), NoMemory> {
+    let op = insert_of(rt, content)?;
+    make(rt.alloc(), mount, &op)
+}
+
+/// Another writer deletes it.
+fn remove<R: Abort + AllocGlobal>(rt: &R, mount: &mut Serial) -> Result<(), NoMemory> {
+    let op = delete_of(rt)?;
+    make(rt.alloc(), mount, &op)
+}
+
+/// Makes an operation beside the mount.
+fn make(alloc: Global, mount: &mut Serial, op: &Op) -> Result<(), NoMemory>
+    requires { IsAllowed (operation op.now) }
+{
+    mount.store.make(alloc, op)?;
+    Ok(())
+}
+
+/// The object `f` has this generation and content.
+fn holds<R: Abort + AllocGlobal>(
+    rt: &R,
+    mount: &mut Serial,
+    generation: u64,
+    content: &str,
+) -> Result<bool, NoMemory> {
+    let op = read_of(rt, generation)?;
+    let answer = mount.store.look(rt.alloc(), &op)?;
+    Ok(shows(&answer, content))
+}
+
+/// An answer is these bytes.
+fn shows(answer: &Answer, content: &str) -> bool {
+    match answer {
+        Answer::Bytes(bytes) => bytes.as_slice() == content.as_bytes(),
+        _ => false,
+    }
+}
+
+/// The insert of `f`, stamped with the second 7.
+fn insert_of<R: Abort + AllocGlobal>(rt: &R, content: &str) -> Result<Op, NoMemory>
+    ensures { IfOk result (λ op. IsAllowed (operation op)) }
+{
+    assert!(rt; allowed("f"));
+    assert!(rt; content.len() <= 100);
+    Ok(Op::Insert {
+        name: Text::of(rt.alloc(), "f")?,
+        content: Bytes::of(rt.alloc(), content.as_bytes())?,
+        pairs: no_pairs(rt.alloc()),
+        only: None,
+        stamp: 7,
+    })
+}
+
+/// The delete of `f`.
+fn delete_of<R: Abort + AllocGlobal>(rt: &R) -> Result<Op, NoMemory>
+    ensures { IfOk result (λ op. IsAllowed (operation op)) }
+{
+    assert!(rt; allowed("f"));
+    Ok(Op::Delete {
+        name: Text::of(rt.alloc(), "f")?,
+        only: None,
+    })
+}
+
+/// The read of all bytes of a generation of `f`.
+fn read_of<R: Abort + AllocGlobal>(rt: &R, generation: u64) -> Result<Op, NoMemory>
+    ensures may { IfOk result (λ op. IsAllowed (operation op)) }
+    ensures quiet { IfOk result (λ op. (b : BucketState) → state_after (operation op) b ≡ b) }
+{
+    assert!(rt; allowed("f"));
+    Ok(Op::Read {
+        name: Text::of(rt.alloc(), "f")?,
+        generation,
+        first: 0,
+        count: 100,
+    })
+}
