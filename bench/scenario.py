@@ -6,7 +6,8 @@ Usage: bench/scenario.py CLONE [RUNS]    (CLONE: a copy of this repository in wh
 It adds the small program below to the copy as a crate of its own, builds it with `rt run`, and gives it scenarios of
 16 and 32 MiB of several shapes. For each it prints the least processor time of RUNS runs (default 5), the ratio to
 `json.loads`, the most memory that the process held as a ratio to the text, and the ratio of the whole text to the half.
-The program's time is that of its whole process, so taking the file is in it.
+The program's time is that of its whole process, so taking the file is in it. For objects with a name alone it prints also
+what their bucket holds by itself, made without any JSON, and what the JSON value of their text holds.
 """
 import json
 import os
@@ -40,6 +41,68 @@ fn tell(rt: &HostRuntime, path: &str) -> io::Result<()> {
             println!(rt; "{number} {place}")
         }
     }
+}
+'''
+
+HOLDING = '''//! Holds what a number or a path stands for: a bucket's objects with a name alone, so many; the JSON value of a file.
+#![tactic(auto)]
+
+use bucket_api::{Meta, Object};
+use io_ports::{Bytes, NoMemory, Row, Text};
+use serde_json::Value;
+use std::alloc::Global;
+use std::collections::BTreeMap;
+use std::{env, fs, io};
+
+fn main(rt: HostRuntime) -> io::Result<()> {
+    for word in env::args(&rt)?.skip(1) {
+        hold(&rt, word.as_str())?;
+    }
+    Ok(())
+}
+
+/// Holds what the word stands for, and tells whether there was memory for it.
+fn hold(rt: &HostRuntime, word: &str) -> io::Result<()> {
+    if let Ok(count) = word.parse::<u64>() {
+        let objects = objects(rt.alloc(), count);
+        return println!(rt; "{}", objects.is_ok());
+    }
+    let bytes = fs::read(rt, word)?;
+    let value = Value::from_slice(rt.alloc(), bytes.as_slice());
+    println!(rt; "{}", value.is_ok())
+}
+
+/// So many objects by their names.
+fn objects(alloc: Global, count: u64) -> Result<BTreeMap<Text, Object>, NoMemory> {
+    let mut objects = BTreeMap::new(alloc);
+    for number in 0..count {
+        let name = name(alloc, number)?;
+        let object = object(alloc, &name, number)?;
+        objects.insert(name, object)?;
+    }
+    Ok(objects)
+}
+
+/// A name.
+fn name(alloc: Global, number: u64) -> Result<Text, NoMemory> {
+    let name = format!(in alloc; "object {number:06}")?;
+    Text::of(alloc, name.as_str())
+}
+
+/// An object with this name alone.
+fn object(alloc: Global, name: &Text, number: u64) -> Result<Object, NoMemory> {
+    let meta = Meta {
+        name: name.copy(alloc)?,
+        generation: number,
+        metageneration: 1,
+        size: 0,
+        updated: 0,
+        pairs: Row::new(alloc),
+    };
+    Ok(Object {
+        meta,
+        content: Bytes::from_vec(Vec::new(alloc)),
+    })
 }
 '''
 
@@ -90,20 +153,20 @@ SHAPES = [
 ]
 
 
-def build(clone):
-    """The program, added to the copy and built there."""
-    folder = os.path.join(clone, "crates", "read_scenario")
+def build(clone, name, program, libraries):
+    """A program, added to the copy as a crate of its own and built there."""
+    folder = os.path.join(clone, "crates", name)
     os.makedirs(os.path.join(folder, "src"), exist_ok=True)
     with open(os.path.join(folder, "src", "main.rt"), "w") as it:
-        it.write(PROGRAM)
+        it.write(program)
     listing = os.path.join(clone, "crates.txt")
     with open(listing) as it:
         text = it.read()
-    if "\nread_scenario:" not in text:
+    if "\n%s:" % name not in text:
         with open(listing, "a") as it:
-            it.write("read_scenario: scenario io_ports\n")
+            it.write("%s: %s\n" % (name, libraries))
     subprocess.run(["rt", "run"], cwd=folder, check=True, stdout=subprocess.DEVNULL)
-    return os.path.join(folder, "out", "read_scenario")
+    return os.path.join(folder, "out", name)
 
 
 def launch(program, path):
@@ -140,8 +203,22 @@ def loads(text, runs):
     return best
 
 
+def parts(clone):
+    """Prints what holding the parts of a scenario of objects with a name alone takes, as ratios to its text."""
+    text = names(32 * MIB)
+    program = build(clone, "hold_parts", HOLDING, "bucket_api io_ports serde_json")
+    with tempfile.NamedTemporaryFile("w", suffix=".json") as it:
+        it.write(text)
+        it.flush()
+        for part, word in (("their text and its JSON value", it.name), ("their bucket", str(text.count("name")))):
+            _, answer, most = told(program, word, 1)
+            if answer != "true":
+                sys.exit("%s: %s" % (part, answer))
+            print("%-32s %8.1f %8s %10s %8.1f" % (part, len(text) / MIB, "", "", most * 1024 / len(text)))
+
+
 def main(clone, runs=5):
-    program = build(clone)
+    program = build(clone, "read_scenario", PROGRAM, "scenario io_ports")
     print("%-32s %8s %8s %10s %8s %8s" % ("scenario", "MiB", "seconds", "x loads", "x memory", "x half"))
     for name, make in SHAPES:
         half = None
@@ -156,6 +233,7 @@ def main(clone, runs=5):
             row = (name, len(text) / MIB, took, took / loads(text, runs), most * 1024 / len(text))
             print("%-32s %8.1f %8.3f %10.1f %8.1f" % row + ("" if half is None else " %8.2f" % (took / half)))
             half = took
+    parts(clone)
 
 
 if __name__ == "__main__":

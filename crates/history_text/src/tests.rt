@@ -3,7 +3,7 @@ ghost use Rattle.std.specs.Prelude.{◌≡◌, length, IfOk};
 ghost use Rattle.bucket_api.specs.Metadata.{KeysRise};
 ghost use Rattle.bucket_api.specs.Names.{IsObjectName};
 ghost use Rattle.bucket_api.specs.Operation.{operation, IsAllowed};
-ghost use Rattle.history_text.specs.HistoryText.{IsPlayed};
+ghost use Rattle.history_text.specs.HistoryText.{CallsRise, IsPlayed};
 
 use crate::{Played, WriteFault, write};
 use bucket_api::{Event, Mode, Op, Pair, allowed};
@@ -29,13 +29,24 @@ fn nothing_played(alloc: Global) -> Played
     }
 }
 
+/// Writes the history. Whether the sink took all of it.
+fn is_taken(alloc: Global, sink: &mut MemSink, played: &Played) -> Result<bool, NoMemory>
+    requires { IsPlayed played.now }
+{
+    match write(alloc, sink, played) {
+        Ok(()) => Ok(true),
+        Err(WriteFault::Failed) => Ok(false),
+        Err(WriteFault::NoMemory) => Err(NoMemory),
+    }
+}
+
 /// Whether the text of the history is this one.
 fn has_text(alloc: Global, played: &Played, text: &str) -> Result<bool, NoMemory>
     requires { IsPlayed played.now }
 {
     let mut sink = MemSink::new(alloc, &[], 8_192)?;
-    let wrote = write(alloc, &mut sink, played);
-    Ok(wrote.is_ok() && sink.bytes() == text.as_bytes())
+    let taken = is_taken(alloc, &mut sink, played)?;
+    Ok(taken && sink.bytes() == text.as_bytes())
 }
 
 /// Appends an item, with room that is asked for now.
@@ -45,54 +56,69 @@ fn add<T: Drop>(row: &mut Row<T>, item: T) -> Result<(), NoMemory> {
     Ok(())
 }
 
-/// The replies to a FLUSH, and to a request that isn't served; and none.
-const FRAMES: [&[u8]; 3] = [
-    b"\x10\x00\x00\x00\x00\x00\x00\x00\x05\x00\x00\x00\x00\x00\x00\x00",
-    b"\x10\x00\x00\x00\xb9\xff\xff\xff\x02\x00\x00\x00\x00\x00\x00\x00",
-    b"",
+/// A reply frame as 32-bit words: its length, its error, the request's number in two words, and the body.
+type Words = &'static [u32];
+
+/// The replies to INIT, to CREATE of node 2 with handle 1, to two WRITEs of two bytes, and to two FLUSHes.
+const FRAMES: [Words; 6] = [
+    &[
+        80, 0, 1, 0, 7, 31, 131_072, 0x40021, 0x9000c, 131_072, 1, 0, 0, 0, 0, 0, 0, 0, 0, 0,
+    ],
+    &[
+        160, 0, 2, 0, 2, 0, 0, 0, 0, 0, 0, 0, 0, 0, 2, 0, 0, 0, 0, 0, 0, 0, 0, 0, 0, 0, 0, 0, 0,
+        0o100644, 1, 0, 0, 0, 4_096, 0, 1, 0, 0, 0,
+    ],
+    &[24, 0, 3, 0, 2, 0],
+    &[24, 0, 4, 0, 2, 0],
+    &[16, 0, 5, 0],
+    &[16, 0, 6, 0],
 ];
 
 /// The calls that they answer.
-const CALLS: [CallId; 3] = [
+const CALLS: [CallId; 6] = [
+    CallId { lane: 1, index: 1 },
+    CallId { lane: 1, index: 2 },
+    CallId { lane: 1, index: 3 },
+    CallId { lane: 1, index: 4 },
     CallId { lane: 1, index: 5 },
-    CallId { lane: 2, index: 2 },
-    CallId { lane: 2, index: 3 },
+    CallId { lane: 1, index: 6 },
 ];
 
-/// The rows of these frames.
-fn frames_of(alloc: Global, texts: &[&[u8]]) -> Result<Row<Bytes>, NoMemory>
-    ensures { IfOk result (λ row. length row.items ≡ length texts.now) }
-{
-    let mut frames = Vec::new(alloc);
-    for text in texts {
-        frames.push(Bytes::of(alloc, text)?)?;
+/// How many events had been seen when each of them was taken, and when it was done.
+const FRONTS: [(u64, u64); 6] = [(0, 0), (0, 1), (1, 1), (1, 1), (1, 2), (2, 2)];
+
+/// A reply frame of these words.
+fn frame_of(alloc: Global, words: Words) -> Result<Bytes, NoMemory> {
+    let mut bytes = Vec::new(alloc);
+    for word in words {
+        bytes.extend_from_slice(&word.to_le_bytes())?;
     }
-    Ok(Row::from_vec(frames))
+    Ok(Bytes::from_vec(bytes))
+}
+
+/// The rows of these frames.
+fn frames_of(alloc: Global, frames: &[Words]) -> Result<Row<Bytes>, NoMemory>
+    ensures { IfOk result (λ row. length row.items ≡ length frames.now) }
+{
+    let mut made = Vec::new(alloc);
+    for frame in frames {
+        made.push(frame_of(alloc, frame)?)?;
+    }
+    Ok(Row::from_vec(made))
 }
 
 /// What was played where these calls were answered, and all else stands as it was.
-fn answered(alloc: Global) -> Result<Played, NoMemory>
+fn answered(alloc: Global, calls: &[CallId], frames: &[Words]) -> Result<Played, NoMemory>
+    requires answered { length frames.now ≡ length calls.now }
+    requires rise { CallsRise calls.now }
     ensures { IfOk result IsPlayed }
 {
-    let replies = frames_of(alloc, &FRAMES)?;
-    let calls = Row::from_vec(Vec::from_slice(alloc, &CALLS)?);
+    let replies = frames_of(alloc, frames)?;
+    let calls = Row::from_vec(Vec::from_slice(alloc, calls)?);
     let mut played = nothing_played(alloc);
     played.replies = replies;
     played.calls = calls;
     Ok(played)
-}
-
-#[test]
-fn replies_are_told_by_their_digits(rt: HostRuntime) -> Result<(), Fail> {
-    let played = answered(rt.alloc())?;
-    let text = "\
-reply 1.5 10000000000000000500000000000000
-reply 2.2 10000000b9ffffff0200000000000000
-reply 2.3 none
-end
-";
-    assert!(rt; has_text(rt.alloc(), &played, text)?);
-    Ok(())
 }
 
 /// The name of an object.
@@ -166,20 +192,82 @@ fn flushed_log<R: Abort + AllocGlobal>(rt: &R) -> Result<Row<Event>, NoMemory> {
     Ok(log)
 }
 
-#[test]
-fn a_flushed_file_is_told_by_bucket_and_log(rt: HostRuntime) -> Result<(), Fail> {
-    let bucket = flushed_bucket(&rt)?;
-    let log = flushed_log(&rt)?;
-    let mut played = nothing_played(rt.alloc());
-    played.bucket = bucket;
-    played.log = log;
-    let text = "\
+/// The entry of a call that was taken. A text doesn't tell its request.
+fn taken(call: CallId, front: u64) -> JournalEntry {
+    JournalEntry::Take {
+        call,
+        front,
+        request: Request::Statfs,
+    }
+}
+
+/// The entry of a call that was done.
+fn done(call: CallId, front: u64, how: How, uses: Row<Use>, fill: Fill) -> JournalEntry {
+    JournalEntry::Done {
+        call,
+        front,
+        how,
+        uses,
+        fill,
+    }
+}
+
+/// The calls taken and done, one after the other.
+fn flushed_journal(alloc: Global) -> Result<Row<JournalEntry>, NoMemory> {
+    let mut journal = Row::new(alloc);
+    for (call, (before, after)) in CALLS.iter().zip(&FRONTS) {
+        add(&mut journal, taken(*call, *before))?;
+        add(
+            &mut journal,
+            done(*call, *after, How::Ok, Row::new(alloc), Fill::Nothing),
+        )?;
+    }
+    Ok(journal)
+}
+
+/// What is told of a file that is created, written twice and flushed twice.
+const FLUSHED: &str = "\
+reply 1.1 50000000000000000100000000000000\
+070000001f00000000000200210004000c000900000002000100000000000000\
+0000000000000000000000000000000000000000000000000000000000000000
+reply 1.2 a0000000000000000200000000000000\
+0200000000000000000000000000000000000000000000000000000000000000\
+0000000000000000020000000000000000000000000000000000000000000000\
+0000000000000000000000000000000000000000000000000000000000000000\
+00000000a4810000010000000000000000000000000000000010000000000000\
+01000000000000000000000000000000
+reply 1.3 180000000000000003000000000000000200000000000000
+reply 1.4 180000000000000004000000000000000200000000000000
+reply 1.5 10000000000000000500000000000000
+reply 1.6 10000000000000000600000000000000
 object 66 2 1 0 4 61626364 676373667573655f6d74696d65=313937302d30312d30315430303a30303a30302e3030303030303030305a
 log 1 1 done insert 66 0 0 - -
 log 2 1 done insert 66 1 0 676373667573655f6d74696d65=313937302d30312d30315430303a30303a30302e3030303030303030305a 61626364
+take 1.1 0
+done 1.1 0 ok
+take 1.2 0
+done 1.2 1 ok
+take 1.3 1
+done 1.3 1 ok
+take 1.4 1
+done 1.4 1 ok
+take 1.5 1
+done 1.5 2 ok
+take 1.6 2
+done 1.6 2 ok
 end
 ";
-    assert!(rt; has_text(rt.alloc(), &played, text)?);
+
+#[test]
+fn a_flushed_file_is_told_whole(rt: HostRuntime) -> Result<(), Fail> {
+    let bucket = flushed_bucket(&rt)?;
+    let log = flushed_log(&rt)?;
+    let journal = flushed_journal(rt.alloc())?;
+    let mut played = answered(rt.alloc(), &CALLS, &FRAMES)?;
+    played.bucket = bucket;
+    played.log = log;
+    played.journal = journal;
+    assert!(rt; has_text(rt.alloc(), &played, FLUSHED)?);
     Ok(())
 }
 
@@ -275,38 +363,20 @@ const USES: [Use; 3] = [
     },
 ];
 
-/// The entry of a call that was done with these uses and this fill.
-fn done(front: u64, how: How, uses: Row<Use>, fill: Fill) -> JournalEntry {
-    JournalEntry::Done {
-        call: CallId { lane: 12, index: 7 },
-        front,
-        how,
-        uses,
-        fill,
-    }
-}
-
 /// A take, dones with uses and fills, and a tick.
 fn other_journal(alloc: Global) -> Result<Row<JournalEntry>, NoMemory> {
     let mut journal = Row::new(alloc);
-    let call = CallId { lane: 1, index: 6 };
-    add(
-        &mut journal,
-        JournalEntry::Take {
-            call,
-            front: 2,
-            request: Request::Statfs,
-        },
-    )?;
+    let call = CallId { lane: 12, index: 7 };
+    add(&mut journal, taken(call, 2))?;
     let uses = Row::from_vec(Vec::from_slice(alloc, &USES)?);
-    add(&mut journal, done(5, How::Ok, uses, Fill::Kept))?;
+    add(&mut journal, done(call, 5, How::Ok, uses, Fill::Kept))?;
     add(
         &mut journal,
-        done(6, How::Ok, Row::new(alloc), Fill::Nothing),
+        done(call, 6, How::Ok, Row::new(alloc), Fill::Nothing),
     )?;
     add(
         &mut journal,
-        done(6, How::NoMemory, Row::new(alloc), Fill::NoMemory),
+        done(call, 6, How::NoMemory, Row::new(alloc), Fill::NoMemory),
     )?;
     add(
         &mut journal,
@@ -318,14 +388,22 @@ fn other_journal(alloc: Global) -> Result<Row<JournalEntry>, NoMemory> {
     Ok(journal)
 }
 
+/// The reply to a request that came before INIT; and none.
+const OTHER_FRAMES: [Words; 2] = [&[16, 0xffff_ffb9, 2, 0], &[]];
+
+/// The calls that they answer.
+const OTHER_CALLS: [CallId; 2] = [CallId { lane: 2, index: 2 }, CallId { lane: 2, index: 3 }];
+
 #[test]
 fn each_operation_and_entry_has_its_words(rt: HostRuntime) -> Result<(), Fail> {
     let log = other_log(rt.alloc())?;
     let journal = other_journal(rt.alloc())?;
-    let mut played = nothing_played(rt.alloc());
+    let mut played = answered(rt.alloc(), &OTHER_CALLS, &OTHER_FRAMES)?;
     played.log = log;
     played.journal = journal;
     let text = "\
+reply 2.2 10000000b9ffffff0200000000000000
+reply 2.3 none
 log 1 1 failed stat 612f62
 log 2 1 done read 612f62 3 0 131072
 log 3 1 lost update 612f62 3 * 7 -
@@ -333,7 +411,7 @@ log 4 1 done delete 612f62 *
 log 5 1 done copy 612f62 3 63 0
 log 6 1 done list 612f62 slash 1000 -
 log 7 1 done list - flat 1 612f62
-take 1.6 2
+take 12.7 2
 done 12.7 5 ok o4k o5d r5 fk
 done 12.7 6 ok
 done 12.7 6 nomemory fn
@@ -372,8 +450,8 @@ fn put_before(alloc: Global, played: &Played, call: u64, text: &[u8]) -> Result<
     requires { IsPlayed played.now }
 {
     let mut sink = MemSink::new(alloc, &[call], 200_000)?;
-    let wrote = write(alloc, &mut sink, played);
-    let told = wrote == Err(WriteFault::Failed) && text.starts_with(sink.bytes());
+    let taken = is_taken(alloc, &mut sink, played)?;
+    let told = !taken && text.starts_with(sink.bytes());
     Ok(if told { sink.bytes().len() } else { 200_000 })
 }
 
@@ -381,7 +459,7 @@ fn put_before(alloc: Global, played: &Played, call: u64, text: &[u8]) -> Result<
 fn a_sink_is_given_pieces_and_keeps_a_prefix(rt: HostRuntime) -> Result<(), Fail> {
     let played = long_played(rt.alloc())?;
     let mut whole = MemSink::new(rt.alloc(), &[], 200_000)?;
-    assert!(rt; write(rt.alloc(), &mut whole, &played).is_ok());
+    assert!(rt; is_taken(rt.alloc(), &mut whole, &played)?);
     let line = "log 1 1 done insert 66 * 0 - \nend\n";
     assert_eq!(rt; whole.bytes().len(), line.len() + 140_000);
     let mut before = 0usize;
