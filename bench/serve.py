@@ -4,16 +4,22 @@
 Usage: bench/serve.py PROGRAM [RUNS]    (PROGRAM: the built program, as crates/gcsmount/out/gcsmount)
 
 For each stream, and for one of half as many frames, it prints the least time of RUNS runs (default 5), the ratio to
-`cat` of the same bytes into a file, and the ratio of the whole stream to the half.
+`cat` of the same bytes into a file, and the ratio of the whole stream to the half. Bytes are those of the stream, or of
+the replies where these are more. Then it prints the most memory that the program held while one file was flushed few
+times and many times.
 """
+import os
 import struct
 import subprocess
 import sys
 import tempfile
 import time
 
-LOOKUP, GETATTR, OPEN, WRITE, STATFS, RELEASE = 1, 3, 14, 16, 17, 18
-INIT, OPENDIR, READDIR, CREATE = 26, 27, 28, 35
+LOOKUP, GETATTR, OPEN, READ, WRITE, STATFS, RELEASE = 1, 3, 14, 15, 16, 17, 18
+FLUSH, INIT, OPENDIR, READDIR, CREATE = 25, 26, 27, 28, 35
+LONGEST_WRITE = 131072
+LONGEST_READ = 1048576
+LAST = 0x4C415354
 
 
 def frame(opcode, unique, node, body=b""):
@@ -61,11 +67,49 @@ def listing_stream(count):
     return create_stream(count) + opened + b"".join(frame(READDIR, 3 + count + n, 1, at) for n, at in enumerate(places))
 
 
+def read(unique, node, handle, first, size):
+    return frame(READ, unique, node, struct.pack("<QQIIQII", handle, first, size, 0, 0, 0, 0))
+
+
+def write(unique, node, handle, first, content):
+    return frame(WRITE, unique, node, struct.pack("<QQIIQII", handle, first, len(content), 0, 0, 0, 0) + content)
+
+
+def flush(unique, node, handle):
+    return frame(FLUSH, unique, node, struct.pack("<QIIQ", handle, 0, 0, 0))
+
+
+def filled(node, handle, size):
+    """Writes so many bytes, one frame behind the other, and flushes them."""
+    content = b"a" * LONGEST_WRITE
+    places = range(0, size, LONGEST_WRITE)
+    return b"".join(write(2, node, handle, place, content) for place in places) + flush(3, node, handle)
+
+
 def write_stream(count):
-    content = b"a" * 131072
-    made = create(2, b"f")
-    places = (struct.pack("<QQIIQII", 1, n * 131072 % (1 << 24), 131072, 0, 0, 0, 0) for n in range(count))
-    return init() + made + b"".join(frame(WRITE, 3 + n, 2, place + content) for n, place in enumerate(places))
+    """Writes files of 15 MiB, each flushed when it is whole."""
+    files = range(count // 120)
+    return init() + b"".join(create(2, b"f%d" % n) + filled(2 + n, 1 + n, 15 << 20) for n in files)
+
+
+def read_stream(count):
+    """Reads one file of 16 MiB, 1 MiB at a time, over and over."""
+    places = (n * LONGEST_READ % (1 << 24) for n in range(count))
+    reads = (read(4, 2, 1, place, LONGEST_READ) for place in places)
+    return init() + create(2, b"f") + filled(2, 1, 1 << 24) + b"".join(reads)
+
+
+def small_file_stream(count):
+    """Makes so many files, and writes 4 KiB into each and flushes it."""
+    content = b"a" * 4096
+    files = (create(2, b"f%d" % n) + write(3, 2 + n, 1 + n, 0, content) + flush(4, 2 + n, 1 + n) for n in range(count))
+    return init() + b"".join(files)
+
+
+def flush_stream(count):
+    """Writes one byte of a file of 1 MiB and flushes it, so many times."""
+    pairs = (write(4, 2, 1, n, b"b") + flush(5, 2, 1) for n in range(count))
+    return init() + create(2, b"f") + filled(2, 1, 1 << 20) + b"".join(pairs)
 
 
 def least(words, path, runs):
@@ -79,6 +123,15 @@ def least(words, path, runs):
     return best
 
 
+def copied(stream, program, runs):
+    """The time that `cat` takes for the stream, or for its replies where these are more."""
+    with tempfile.NamedTemporaryFile() as replies:
+        with open(stream, "rb") as frames:
+            subprocess.run([program, "serve"], stdin=frames, stdout=replies, check=True)
+        longer = max(stream, replies.name, key=os.path.getsize)
+        return least(["cat"], longer, runs)
+
+
 def measure(name, make, count, program, runs):
     times = []
     for frames in (count // 2, count):
@@ -86,22 +139,44 @@ def measure(name, make, count, program, runs):
             stream.write(make(frames))
             stream.flush()
             served = least([program, "serve"], stream.name, runs)
-            copied = least(["cat"], stream.name, runs)
+            ratio = served / copied(stream.name, program, runs)
         times.append(served)
-        print(f"{name}, {frames} frames: {served:.3f} s, {served / copied:.1f} times cat")
-    print(f"{name}: twice the frames take {times[1] / times[0]:.2f} times as long")
+        print(f"{name}, {frames}: {served:.3f} s, {ratio:.1f} times cat")
+    print(f"{name}: twice as many take {times[1] / times[0]:.2f} times as long")
+
+
+def held(pid):
+    """The most memory that a process has held so far, in kB."""
+    with open(f"/proc/{pid}/status") as status:
+        return next(int(line.split()[1]) for line in status if line.startswith("VmHWM:"))
+
+
+def most_memory(name, make, count, program):
+    """Prints the most memory that the program held over a stream, read once its last reply is there."""
+    with tempfile.TemporaryFile() as replies:
+        served = subprocess.Popen([program, "serve"], stdin=subprocess.PIPE, stdout=replies)
+        served.stdin.write(make(count) + frame(STATFS, LAST, 1))
+        served.stdin.flush()
+        while struct.pack("<Q", LAST) not in os.pread(replies.fileno(), 96, max(0, os.fstat(replies.fileno()).st_size - 96)):
+            time.sleep(0.01)
+        print(f"{name}, {count}: {held(served.pid)} kB at most")
+        served.communicate()
 
 
 def main():
     program = sys.argv[1]
     runs = int(sys.argv[2]) if len(sys.argv) > 2 else 5
     measure("STATFS", statfs_stream, 500_000, program, runs)
-    measure("WRITE of 128 KiB", write_stream, 400, program, runs)
+    measure("WRITE of 128 KiB, a FLUSH each 15 MiB", write_stream, 480, program, runs)
+    measure("READ of 1 MiB", read_stream, 1024, program, runs)
+    measure("CREATE, WRITE of 4 KiB and FLUSH", small_file_stream, 15_000, program, runs)
     measure("LOOKUP", lookup_stream, 200_000, program, runs)
     measure("GETATTR", getattr_stream, 200_000, program, runs)
     measure("OPEN and RELEASE", open_stream, 200_000, program, runs)
     measure("CREATE", create_stream, 200_000, program, runs)
     measure("CREATE, OPENDIR and READDIR", listing_stream, 20_000, program, runs)
+    for flushes in (10, 10_000):
+        most_memory("FLUSH of 1 MiB", flush_stream, flushes, program)
 
 
 if __name__ == "__main__":
