@@ -1,6 +1,5 @@
 -- The bytes that are wanted of a source are there while it is live, and what was read of them is what is wanted.
-use Rattle.std.proofs.Common.{◌≡◌, ◌≤◌, ◌+◌, ◌<◌, ℕ, Bool, true, false, List, [], Option, Some, None, length, take, drop, unwrap_or, nat_lt, refl, sym, ap, subst, ◌∙◌, arith}
-use Rattle.std.proofs.lemmas.Bool.Decides.{nat_tests}
+use Rattle.std.proofs.Common.{◌≡◌, ◌≤◌, ◌+◌, ℕ, Bool, true, false, List, [], Option, Some, None, length, take, drop, unwrap_or, nat_lt, refl, sym, ap, subst, ◌∙◌, arith}
 use Rattle.std.proofs.lemmas.List.{length-drop, length-take-le}
 use Rattle.std.specs.FinMap as fin
 use Rattle.std.specs.Prelude.{if◌then◌else◌}
@@ -17,10 +16,10 @@ use Rattle.mount_rules.specs.Dispatch.{wants}
 use Rattle.mount_rules.specs.Laws.{IsOfFile}
 use Rattle.mount_rules.specs.Mount.{IsMount, MountModel}
 use Rattle.mount_rules.specs.OneThread.{RunState, contents_of}
-use Rattle.mount_rules.specs.Plans.{Contents, CoversWanted, HoldsWanted, Wanted}
+use Rattle.mount_rules.specs.Plans.{Contents, HoldsWanted, Wanted}
 use Rattle.mount_rules.specs.Reading.{wanting}
 use Rattle.mount_state.specs.declared.base.Base.{Base}
-use Rattle.staging_spec.specs.Slices.{Covers, Holds}
+use Rattle.staging_spec.specs.Slices.{Holds}
 use Rattle.staging_spec.specs.Wanted.{Range}
 
 -- ---- what was read

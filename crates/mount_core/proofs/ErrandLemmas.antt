@@ -17,7 +17,6 @@ use Rattle.mount_rules.specs.Making as making
 use Rattle.mount_rules.specs.Mount.{MountModel}
 use Rattle.mount_model.specs.Observing.{Observed}
 use Rattle.mount_rules.specs.Plans.{Plan, Source, answers_of, done, without_reads}
-use Rattle.mount_rules.specs.Reading.{Reads, given, gone, failed, reads, source_of, while_given}
 use Rattle.mount_rules.specs.Requests.Flush as flush
 use Rattle.mount_rules.specs.Requests.Lookup as lookup
 use Rattle.mount_rules.specs.Requests.Lookup.{Probed, present, absent, failed as probe_failed}
@@ -28,7 +27,7 @@ use Rattle.mount_rules.specs.Requests.Setattr.{Asked, Change}
 use Rattle.mount_rules.specs.Requests.Write as writing
 use Rattle.mount_rules.specs.Rules.{AtTake, at_node}
 use Rattle.mount_rules.specs.Standing as standing
-use Rattle.mount_rules.specs.View.{Sight, View, view_of}
+use Rattle.mount_rules.specs.View.{View, view_of}
 use Rattle.mount_state.specs.Spares.{Fills}
 use Rattle.object_names.specs.declared.shown.DirItem.{DirItem}
 use Rattle.plan_files.specs.Errands.{asks_behind}

@@ -5,7 +5,6 @@ use Rattle.std.specs.Option.{option_map_or}
 use Rattle.std.proofs.lemmas.Bool.{false≢true}
 use Rattle.std.specs.Prelude.{is_some, option_and_then}
 use Rattle.bucket_api.specs.BucketStep.{with_pair}
-use Rattle.bucket_api.specs.Metadata.{Metadata}
 use Rattle.bucket_api.specs.Operation.{Operation, insert, max_content}
 use Rattle.bucket_api.specs.declared.answers.Answer.{Answer}
 use Rattle.bucket_api.specs.declared.objects.Pair.{Pair}

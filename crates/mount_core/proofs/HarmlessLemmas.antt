@@ -1,7 +1,7 @@
 -- While an errand asks on, it has made nothing but look-ups, copies and lists; and so has a listing to its end.
-use Rattle.std.proofs.Common.{◌≡◌, ◌≢◌, ℕ, List, [], ◌∷◌, None, refl}
+use Rattle.std.proofs.Common.{◌≢◌, ℕ, List, [], ◌∷◌, None, refl}
 use Rattle.std.specs.List.{AllByRecursion}
-use Rattle.mount_core.specs.Errands.{IsListing, IsWalked, content_of, plan_of}
+use Rattle.mount_core.specs.Errands.{IsListing, IsWalked, plan_of}
 use Rattle.mount_core.specs.Stores.{Counted}
 use Rattle.mount_core.specs.Walks.{Stops, StopsAsking, Walks}
 use Rattle.mount_core.specs.declared.errand.Errand.{Errand}
@@ -12,7 +12,7 @@ use Rattle.mount_laws.proofs.Requests.Lookup.{asks_harmless}
 use Rattle.mount_laws.proofs.Requests.Opendir.{asks_lists}
 use Rattle.mount_model.specs.Observing.{Observed}
 use Rattle.mount_rules.specs.Laws.{Planned}
-use Rattle.mount_rules.specs.Plans.{Contents, IsHarmless, answers_of, done}
+use Rattle.mount_rules.specs.Plans.{IsHarmless, answers_of, done}
 use Rattle.plan_files.specs.declared.errand.FileErrand.TheVariants as File
 use Rattle.plan_files.specs.declared.errand.FileErrand.TheVariants.{Attr, Source, Touch}
 use Rattle.plan_names.specs.declared.errand.NameErrand.TheVariants.{Lookup, Make, Opendir}

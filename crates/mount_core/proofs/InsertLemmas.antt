@@ -1,5 +1,5 @@
 -- The flush of a frozen copy: it takes what the copy lacks, inserts the whole content, and may end then.
-use Rattle.std.proofs.Common.{◌≡◌, ◌≤◌, ◌<◌, ◌+◌, ℕ, Bool, true, false, List, [], ◌∷◌, Some, length, take, drop, replicate, refl, sym, ap, subst, ◌∙◌}
+use Rattle.std.proofs.Common.{◌≡◌, ◌≤◌, ◌<◌, ℕ, Bool, true, false, List, [], ◌∷◌, Some, length, take, drop, replicate, sym, ap, subst, ◌∙◌}
 use Rattle.std.proofs.Math.Seq.{drop-append_seam, take-length}
 use Rattle.std.proofs.lemmas.List.{length-replicate}
 use Rattle.std.specs.Prelude.{if◌then◌else◌, ◌++◌}
@@ -15,15 +15,15 @@ use Rattle.mount_core.specs.Errands.{FlushesFrozen, source_of}
 use Rattle.mount_core.specs.Stores.{Counted, most}
 use Rattle.mount_core.specs.Walks.{Stops, Walks, left_by, observed_on}
 use Rattle.mount_model.specs.Observing.{Observed}
-use Rattle.mount_rules.specs.Plans.{Contents, CoversWanted, MayEnd, Step, ask, asked_by, done}
+use Rattle.mount_rules.specs.Plans.{Contents, MayEnd, ask, asked_by}
 use Rattle.mount_state.specs.declared.base.Base.{Base}
-use Rattle.plan_files.specs.Errands.{IsErrand, IsFlush, plan_of, wanted_of}
+use Rattle.plan_files.specs.Errands.{plan_of, wanted_of}
 use Rattle.plan_files.specs.declared.errand.FileErrand.{FileErrand}
 use Rattle.plan_files.specs.declared.errand.FileErrand.TheVariants.{Attr, Flush, Source, Touch}
 use Rattle.staged_file.proofs.Contents.{length-bytes}
-use Rattle.staged_file.specs.Frozen.{FrozenFile, frozen_content, frozen_lacks, frozen_wanted}
+use Rattle.staged_file.specs.Frozen.{FrozenFile, frozen_content}
 use Rattle.staged_file.specs.Sources.{range_of}
-use Rattle.staging_spec.specs.Slices.{Covers, Holds}
+use Rattle.staging_spec.specs.Slices.{Holds}
 
 -- ---- its parts
 is_short : (errand : FileErrand) (frozen : FrozenFile) → FlushesFrozen errand frozen → length frozen.bytes ≤ max_content

@@ -7,7 +7,6 @@ use Rattle.fuse_requests.specs.declared.request.Request.{Request}
 use Rattle.fuse_requests.specs.declared.request.Request.TheVariants.{BatchForget, Create, Destroy, Flush, Forget, Fsync, Fsyncdir, Getattr, Init, Interrupt, Lookup, Opendir, Opening, Read, Readdir, Release, Releasedir, Setattr, Statfs, Unknown, Write}
 use Rattle.handle_table.specs.Handles.{Opened}
 use Rattle.bucket_api.specs.Operation.{max_content}
-use Rattle.file_metadata.specs.FileMetadata.{last_second}
 use Rattle.mount_model.specs.declared.config.Config.{Config}
 use Rattle.mount_rules.specs.Dispatch.{early, is_among, is_full, is_init, is_silent, refused_at_take, rules_of, served_opcodes, silent_opcodes, view_in}
 use Rattle.mount_rules.specs.Guards.{entries_opened, errno_of_fault, in_directory, file_opened, is_directory, longest_read, on_file, on_live, on_open_directory, on_open_file, part_refusal, size_refusal}

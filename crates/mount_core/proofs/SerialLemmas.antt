@@ -1,8 +1,8 @@
 -- A request that was walked along its plan, or refused, is the next one of whatever run came to the mount.
 use Rattle.std.proofs.Math.Nat.{min-le_right}
-use Rattle.std.proofs.Common.{◌≡◌, ◌≤◌, ◌+◌, ℕ, All, Bool, true, false, List, [], Option, Some, None, refl, sym, ap, subst, ◌∙◌, inl, inr, arith}
+use Rattle.std.proofs.Common.{◌≡◌, ◌≤◌, ◌+◌, ℕ, All, Bool, true, false, List, [], Option, Some, None, refl, sym, ap, subst, ◌∙◌, inl, inr}
 use Rattle.std.proofs.lemmas.Bool.{false≢true}
-use Rattle.std.specs.Prelude.{not, ◌&&◌, is_some, if◌then◌else◌, IsSome}
+use Rattle.std.specs.Prelude.{not, ◌&&◌, is_some, if◌then◌else◌}
 use Rattle.std.specs.Option.{option_map_or}
 use Rattle.bucket_api.specs.BucketState.{BucketState, IsBucket}
 use Rattle.bucket_api.specs.Operation.{IsAllowed}
@@ -37,7 +37,7 @@ use Rattle.mount_rules.specs.Mount.{IsMount, MountModel}
 use Rattle.mount_rules.specs.Files.{FilesAreShort}
 use Rattle.mount_rules.specs.Laws.{FilesHaveContent, IsRefusedFull, StagedStandOver}
 use Rattle.mount_rules.specs.OneThread.{Call, Ending, IsLawful, RunState, after_operations, at_state, contents_of, mount_by, performed, plan_at, second_of, short, stale, state_after_call}
-use Rattle.mount_rules.specs.Plans.{Completes, Contents, MayEnd, Plan, Source, Step, Wanted, done, may_read, without_reads}
+use Rattle.mount_rules.specs.Plans.{Completes, Contents, Plan, Source, Step, Wanted, done, may_read, without_reads}
 use Rattle.mount_rules.specs.Rules.{AtTake}
 use Rattle.mount_rules.specs.View.{View}
 

@@ -1,51 +1,21 @@
 -- The times of staged contents, and those that a SETATTR sets, are times that a file can have.
-use Rattle.std.proofs.Common.{◌≡◌, ◌≤◌, ◌+◌, ◌-◌, ℕ, Bool, true, false, List, [], ◌∷◌, Option, Some, None, refl, sym, ap, subst, ◌∙◌, ◌⊎◌, inl, inr, arith, nat_eq, nat_le, nat_lt}
+use Rattle.std.proofs.Common.{◌≡◌, ◌≤◌, ℕ, Bool, true, false, Option, Some, None, refl, sym, ap, subst, ◌∙◌, ◌⊎◌, inl, inr, arith, nat_le}
 use Rattle.std.proofs.lemmas.Bool.{false≢true}
 use Rattle.std.proofs.lemmas.Bool.Decides.{nat_tests}
-use Rattle.std.specs.Prelude.{if◌then◌else◌, not, ◌&&◌, ◌||◌, ◌==◌, option_and_then, is_some}
+use Rattle.std.specs.Prelude.{if◌then◌else◌, not, ◌&&◌, ◌||◌, ◌==◌, is_some}
 use Rattle.std.specs.FinMap as fin
-use Rattle.std.specs.List.{AllByRecursion}
 use Rattle.std.specs.Option.{option_map_or}
-use Rattle.bucket_api.specs.Metadata.{KeysRise, Metadata}
-use Rattle.bucket_api.specs.declared.answers.Answer.{Answer}
-use Rattle.bucket_api.specs.declared.answers.Answer.TheVariants as answers
 use Rattle.file_metadata.specs.FileMetadata.{last_second}
 use Rattle.fuse_replies.specs.Errno.{einval, eisdir, estale}
-use Rattle.fuse_requests.specs.declared.request.Request.{Request}
-use Rattle.fuse_requests.specs.declared.request.Request.TheVariants.{BatchForget, Create, Destroy, Flush, Forget, Fsync, Fsyncdir, Getattr, Init, Lookup, Opendir, Opening, Read, Readdir, Release, Releasedir, Setattr, Statfs, Write}
-use Rattle.fuse_requests.specs.declared.request.Forgotten.{Forgotten}
-use Rattle.inode_spec.proofs.Cases.{on_found, on_test}
-use Rattle.inode_spec.specs.Inodes.{file_of, forgotten, granted, is_live, let_go, made_current, with_file, with_inode}
-use Rattle.mount_core.specs.Metadatas.{GivesMetadata}
-use Rattle.mount_laws.proofs.Changes.{on_forgotten, on_forgotten_at, on_let_go}
+use Rattle.inode_spec.proofs.Cases.{on_test}
 use Rattle.mount_laws.proofs.Keeping.{no_Some, same_Some}
-use Rattle.mount_laws.proofs.RequestLaws.{goes}
-use Rattle.mount_model.specs.Observing.{Observed}
-use Rattle.mount_rules.specs.Dispatch.{goes_on, mount_after, rules_of, taken_at, view_in}
-use Rattle.mount_rules.specs.Files.{length_of, with_staged}
+use Rattle.mount_rules.specs.Files.{length_of}
 use Rattle.mount_rules.specs.Guards.{on_live}
-use Rattle.mount_rules.specs.Making as making
-use Rattle.mount_rules.specs.Mount.{File, IsMount, MountModel, Node, NodeTable}
-use Rattle.mount_rules.specs.Plans.{answers_of, last_moment}
-use Rattle.mount_rules.specs.Requests.BatchForget as batch_forget
-use Rattle.mount_rules.specs.Requests.Create as create
-use Rattle.mount_rules.specs.Requests.Flush as flush
+use Rattle.mount_rules.specs.Mount.{NodeTable}
 use Rattle.mount_rules.specs.Requests.Forget as forget
-use Rattle.mount_rules.specs.Requests.Init as init
-use Rattle.mount_rules.specs.Requests.Lookup as lookup
-use Rattle.mount_rules.specs.Requests.Open as open_file
-use Rattle.mount_rules.specs.Requests.Opendir as opendir
-use Rattle.mount_rules.specs.Requests.Release as release
 use Rattle.mount_rules.specs.Requests.Setattr as setattr
 use Rattle.mount_rules.specs.Requests.Setattr.{Asked, Change}
-use Rattle.mount_rules.specs.Requests.Write as write
-use Rattle.mount_rules.specs.Rules.{AtTake, Taken}
-use Rattle.mount_rules.specs.Showing.{Numbered, current_shown, directory_again, file_shown, new_directory, new_node, newer, object_again, refreshed, shown_again, stands_for, with_shown_or_new}
-use Rattle.mount_rules.specs.Standing as standing
-use Rattle.mount_rules.specs.Standing.{Standing, generation_seen, refreshed_at}
 use Rattle.mount_rules.specs.View.{Sight, View}
-use Rattle.object_names.specs.Paths.{dir_prefix_of}
-use Rattle.object_names.specs.declared.shown.DirItem.{DirItem}
 use Rattle.object_names.specs.declared.shown.NodeKind.{NodeKind}
 use Rattle.object_names.specs.declared.shown.NodeKind.TheVariants as kind
 use Rattle.plan_files.specs.Errands.{IsTime}

@@ -1,5 +1,5 @@
 -- What is staged is frozen, and goes with the pairs that are kept.
-use Rattle.std.proofs.Common.{◌≡◌, ◌≤◌, ℕ, rules, List, Option, Some, subst, sym, ap, ◌∙◌}
+use Rattle.std.proofs.Common.{◌≡◌, ℕ, rules, List, Option, Some, subst, sym, ap, ◌∙◌}
 use Rattle.std.specs.FinMap as fin
 use Rattle.std.specs.Option.{option_map_or}
 use Rattle.bucket_api.specs.BucketStep.{with_pair}

@@ -1,5 +1,5 @@
 -- A time is set of a file, and is one.
-use Rattle.std.proofs.Common.{◌≡◌, ℕ, rules, Option, Some, None, IsSome, subst, sym, ap, ◌∙◌, option_map}
+use Rattle.std.proofs.Common.{◌≡◌, rules, Option, Some, None, IsSome, subst, sym, ap, ◌∙◌, option_map}
 use Rattle.std.specs.FinMap as fin
 use Rattle.bucket_api.specs.Names.{IsObjectName}
 use Rattle.mount_core.proofs.FileLemmas.{file_kind, kept_file, named_file}

@@ -1,7 +1,7 @@
 -- The content is short, and its insert is all that is made.
-use Rattle.std.proofs.Common.{◌≡◌, ℕ, ◌++◌, ◌∷◌, List, [], sym, ap, subst, ◌∙◌}
+use Rattle.std.proofs.Common.{◌≡◌, ℕ, List, [], sym, ap, subst, ◌∙◌}
 use Rattle.bucket_api.specs.Operation.{operation}
-use Rattle.mount_core.proofs.InsertLemmas.{content_short, ends_insert, holds_frozen, walks_insert}
+use Rattle.mount_core.proofs.InsertLemmas.{content_short, holds_frozen, walks_insert}
 use Rattle.mount_core.proofs.WalkLemmas.{observed_so}
 use Rattle.mount_core.specs.Errands.{source_of}
 use Rattle.mount_core.specs.SeenList.{SeenList}

@@ -1,5 +1,5 @@
 -- A request is refused at once, or performed.
-use Rattle.std.proofs.Common.{◌≡◌, Some, Option, ap, subst, sym, ◌∙◌}
+use Rattle.std.proofs.Common.{◌≡◌, ap, subst, sym, ◌∙◌}
 use Rattle.fuse_requests.specs.Grammar.{without_spare}
 use Rattle.mount_core.proofs.SendLemmas.{taken-told}
 use Rattle.mount_core.proofs.SerialLemmas.{free_early, free_full, refused_taken, short_files}

@@ -1,5 +1,5 @@
 -- A request that was walked to its end is performed; another stopped on its way.
-use Rattle.std.proofs.Common.{◌≡◌, ◌≤◌, ◌+◌, ◌-◌, ℕ, refl, ap, subst, sym, ◌∙◌, arith, length, Option}
+use Rattle.std.proofs.Common.{◌≡◌, ◌≤◌, ◌+◌, ◌-◌, refl, ap, subst, sym, ◌∙◌, arith, length, Option}
 use Rattle.file_metadata.specs.FileMetadata.{last_second}
 use Rattle.fuse_replies.specs.Replies.{without_spare as reply_without_spare}
 use Rattle.fuse_replies.specs.declared.reply.Reply.TheVariants.{Error}
@@ -12,7 +12,7 @@ use Rattle.mount_core.specs.Serials.{CameTo, IsSerial, SerialState, ServesOne}
 use Rattle.mount_model.specs.declared.config.Config.{Config}
 use Rattle.mount_rules.specs.Dispatch.{mount_after, reply_to, wants}
 use Rattle.mount_rules.specs.Files.{FilesAreShort}
-use Rattle.mount_rules.specs.Mount.{IsMount, MountModel}
+use Rattle.mount_rules.specs.Mount.{MountModel}
 use Rattle.mount_rules.specs.OneThread.{RunState, at_state, contents_of, second_of}
 use Rattle.mount_rules.specs.Plans.{Contents, CoversWanted, HoldsWanted, Wanted}
 use Rattle.mount_state.specs.Mounts.{MountState}
