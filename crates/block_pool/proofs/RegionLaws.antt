@@ -28,6 +28,9 @@ module _ (size used limit : ℕ) (bytes : List ℕ) (full : length bytes ≡ use
   pub fits_in : (block first count : ℕ) → block < length v.blocks → first + count ≤ size → (block * size + first) + count ≤ length bytes
   fits_in block first count lt fits = let h = in_part used block size first count (is_used block lt) fits in omega arith
 
+  pub part_is : (block : ℕ) → block < length v.blocks → take size (drop (block * size) bytes) ≡ get_or v.blocks block []
+  part_is block lt = sym (part_at size used block bytes (is_used block lt)) ∙ ap (λ w. get_or w.blocks block []) is
+
   pub part_read : (block first count : ℕ) → block < length v.blocks → first + count ≤ size → take count (drop (block * size + first) bytes) ≡ take count (drop first (get_or v.blocks block []))
   part_read block first count lt fits = read_part size used block first count bytes (is_used block lt) full fits ∙ ap (λ w. take count (drop first (get_or w.blocks block []))) is
 

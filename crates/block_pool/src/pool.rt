@@ -2,7 +2,7 @@
 ghost use Rattle.std.specs.Prelude.{◌≡◌, ℕ, ◌+◌, ◌-◌, ◌≤◌, ◌<◌, Bool, None, Some, IsSome, is_some, IfOk, IfSome, length, take, drop, nat_lt, nat_le, if◌then◌else◌};
 ghost use Rattle.std.specs.Bool.{OnTrue, OnFalse};
 ghost use Rattle.std.specs.FinMap as fin;
-ghost use Rattle.std.specs.Option.{IfNone};
+ghost use Rattle.std.specs.Option.{IfNone, option_copied};
 ghost use Rattle.block_pool.specs.Chains.{at, entries_of, IsChain};
 ghost use Rattle.block_pool.specs.Pool as spec;
 ghost use Rattle.block_pool.specs.Pool.{IsPool, Keeps};
@@ -131,6 +131,21 @@ impl BlockPool {
         Some(chain)
     }
 
+    /// The bytes of the block at a position of a chain, lent, where it has one.
+    pub fn block(&self, chain: &Chain, position: u64) -> Option<&[u8]>
+        requires { IsChain self.now.chains chain.now }
+        ensures ok { option_copied result ≡ at (entries_of self.now.chains chain.now) position }
+        ensures len { IfSome result (λ bytes. length bytes.now ≡ 65536) }
+    {
+        let Some(head) = chain.head() else {
+            return None;
+        };
+        let Some(block) = self.links.find(head, position) else {
+            return None;
+        };
+        Some(self.region.block(block))
+    }
+
     /// Copies bytes out of the block at a position, from a place in it on.
     pub fn read(&self, chain: &Chain, position: u64, first: u64, out: &mut [u8])
         requires chain { IsChain self.now.chains chain.now }
@@ -157,6 +172,7 @@ impl BlockPool {
         let block = self.links.find(head, position).unwrap();
         self.region.write(block, first as usize, from);
     }
+
     /// Makes the bytes of the block at a position zeros, from a place in it on.
     pub fn clear_from(&mut self, chain: &mut Chain, position: u64, first: u64)
         requires chain { IsChain self.old.chains chain.old }

@@ -60,6 +60,14 @@ impl Region {
         clear_at(&mut self.bytes, block * BLOCK, BLOCK);
     }
 
+    /// The bytes of a block, lent.
+    pub fn block(&self, block: usize) -> &[u8]
+        requires { block < length self.now.blocks }
+        ensures { result.now ≡ slice_index_or self.now.blocks block [] }
+    {
+        part_of(&self.bytes, block * BLOCK, BLOCK)
+    }
+
     /// Copies bytes out of a block, from a place in it on.
     pub fn read(&self, block: usize, first: usize, out: &mut [u8])
         requires block { block < length self.now.blocks }
@@ -136,7 +144,15 @@ fn read_at(bytes: &Vec<u8>, start: usize, out: &mut [u8])
     requires { start + length out.old ≤ vec_len bytes.now }
     ensures { out.new ≡ take (length out.old) (drop start bytes.now.items) }
 {
+    out.copy_from_slice(part_of(bytes, start, out.len()));
+}
+
+/// So many bytes from a place on, lent.
+fn part_of(bytes: &Vec<u8>, start: usize, count: usize) -> &[u8]
+    requires { start + count ≤ vec_len bytes.now }
+    ensures { result.now ≡ take count (drop start bytes.now.items) }
+{
     let (_front, rest) = bytes.as_slice().split_at(start);
-    let (middle, _back) = rest.split_at(out.len());
-    out.copy_from_slice(middle);
+    let (middle, _back) = rest.split_at(count);
+    middle
 }

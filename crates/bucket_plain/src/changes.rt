@@ -12,20 +12,24 @@ use io_ports::{Bytes, NoMemory, Row, Text};
 use std::alloc::Global;
 
 impl Plain {
-    /// A new generation under the name, where the live one is the one asked for. `NoMemory` leaves all as it was.
-    pub(crate) fn insert(
+    /// Makes what `apply` makes of an `Insert` with these parts, and takes the content by value: it is moved into the
+    /// bucket and not copied. `only` is the generation that must be live, where 0 asks that none is (Cloud Storage:
+    /// `ifGenerationMatch`); `stamp` is the second of the change.
+    ///
+    /// An answer other than `Meta` has changed nothing, and so has `NoMemory`; the content is let go then.
+    pub fn insert(
         &mut self,
         alloc: Global,
         name: &Text,
-        content: &Bytes,
+        content: Bytes,
         pairs: &Row<Pair>,
         only: Option<u64>,
         stamp: u64,
     ) -> Result<Answer, NoMemory>
         requires room { HasRoom self.old }
-        requires may { IsAllowed (insert name.now content.now pairs.now.items only stamp) }
-        ensures ok { IfOk result (λ answer. answer ≡ answer_to (insert name.now content.now pairs.now.items only stamp) self.old) }
-        ensures after { OnOk result (self.new ≡ state_after (insert name.now content.now pairs.now.items only stamp) self.old) }
+        requires may { IsAllowed (insert name.now content pairs.now.items only stamp) }
+        ensures ok { IfOk result (λ answer. answer ≡ answer_to (insert name.now content pairs.now.items only stamp) self.old) }
+        ensures after { OnOk result (self.new ≡ state_after (insert name.now content pairs.now.items only stamp) self.old) }
         ensures kept { OnErr result (self.new ≡ self.old) }
     {
         let (generation, metageneration) = self.numbers(name);
@@ -122,12 +126,12 @@ impl Plain {
         &self,
         alloc: Global,
         name: &Text,
-        content: &Bytes,
+        content: Bytes,
         pairs: &Row<Pair>,
         stamp: u64,
     ) -> Result<Object, NoMemory>
         requires { self.now.last < 2 ^ 64 - 1 }
-        ensures ok { IfOk result (λ object. object ≡ new_object self.now name.now content.now pairs.now.items stamp) }
+        ensures ok { IfOk result (λ object. object ≡ new_object self.now name.now content pairs.now.items stamp) }
     {
         let meta = Meta {
             name: name.copy(alloc)?,
@@ -137,7 +141,6 @@ impl Plain {
             updated: stamp,
             pairs: copy_pairs(alloc, pairs)?,
         };
-        let content = content.copy(alloc)?;
         Ok(Object { meta, content })
     }
 
@@ -152,7 +155,8 @@ impl Plain {
         requires { self.now.last < 2 ^ 64 - 1 }
         ensures ok { IfOk result (λ copy. copy ≡ new_object self.now to.now object.now.content object.now.meta.pairs stamp) }
     {
-        self.made(alloc, to, &object.content, &object.meta.pairs, stamp)
+        let content = object.content.copy(alloc)?;
+        self.made(alloc, to, content, &object.meta.pairs, stamp)
     }
 
     /// Puts an object that has the next generation, and answers what is told of it.

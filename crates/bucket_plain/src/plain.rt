@@ -103,7 +103,10 @@ impl Plain {
                 pairs,
                 only,
                 stamp,
-            } => self.insert(alloc, name, content, pairs, *only, *stamp),
+            } => {
+                let content = content.copy(alloc)?;
+                self.insert(alloc, name, content, pairs, *only, *stamp)
+            },
             Op::Update {
                 name,
                 pairs,

@@ -111,6 +111,36 @@ impl Tried {
         self.ask(rt, &op, expected)
     }
 
+    /// Gives the bucket a content, and compares its answer.
+    fn give<R: Abort + AllocGlobal>(
+        &mut self,
+        rt: &R,
+        only: Option<u64>,
+        expected: &str,
+    ) -> Result<(), NoMemory> {
+        let answer = self.insert_given(rt, only)?;
+        assert_eq!(rt; shown(rt.alloc(), &answer)?.as_str(), expected);
+        Ok(())
+    }
+
+    /// Moves the content `moved` into the bucket.
+    fn insert_given<R: Abort + AllocGlobal>(
+        &mut self,
+        rt: &R,
+        only: Option<u64>,
+    ) -> Result<Answer, NoMemory> {
+        assert!(rt; self.most < 1000);
+        let name = object_name(rt, "f")?;
+        let content = Bytes::of(rt.alloc(), b"moved")?;
+        assert!(rt; content.as_slice().len() == 5);
+        let pairs = no_pairs(rt.alloc());
+        let answer = self
+            .bucket
+            .insert(rt.alloc(), &name, content, &pairs, only, 6)?;
+        self.most += 1;
+        Ok(answer)
+    }
+
     fn update<R: Abort + AllocGlobal>(
         &mut self,
         rt: &R,
@@ -259,6 +289,16 @@ fn reads_end_at_the_end_of_a_live_generation(rt: HostRuntime) -> Result<(), Fail
     tried.read(&rt, 1, u64::MAX, u64::MAX, "read ")?;
     tried.insert(&rt, None, "2 1 at 5")?;
     tried.read(&rt, 1, 0, 1, "not found")?;
+    Ok(())
+}
+
+#[test]
+fn a_content_is_moved_into_the_bucket(rt: HostRuntime) -> Result<(), Fail> {
+    let mut tried = Tried::new(rt.alloc());
+    tried.insert(&rt, None, "1 1 at 5")?;
+    tried.give(&rt, Some(0), "precondition 1 1")?;
+    tried.give(&rt, Some(1), "2 1 at 6")?;
+    tried.read(&rt, 2, 0, 9, "read moved")?;
     Ok(())
 }
 

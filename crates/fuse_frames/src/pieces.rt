@@ -4,9 +4,10 @@ ghost use Rattle.std.specs.VecDeque.{deque_capacity, deque_len};
 ghost use Rattle.fuse_frames.specs.Cut.{HasNoBadLen, IsUnfinished, IsKeptOf};
 ghost use Rattle.fuse_frames.specs.Kept.{Ends, IsPieces, Waits};
 
-use crate::front::{bad_len, grow, whole_frames};
+use crate::front::{bad_len, grow, told_len, whole_frames};
 use fuse_head::whole_frame;
 use io_ports::{Bytes, NoMemory};
+use std::alloc::Global;
 use std::collections::VecDeque;
 
 /// Bytes that were cut: their whole frames, what is kept of what stands behind these, and how many bytes the frames
@@ -59,10 +60,20 @@ fn cut(held: &mut VecDeque<Bytes>, bytes: &[u8]) -> Result<Pieces, NoMemory>
     let alloc = *held.allocator();
     let mut frames = VecDeque::new(alloc);
     let left = whole_frames(alloc, bytes, &mut frames)?;
-    let rest = Vec::from_slice(alloc, known(left))?;
+    let rest = begun(alloc, known(left))?;
     held.reserve(frames.len() + 1)?;
     let size = bytes.len() - left.len();
     Ok(Pieces { frames, rest, size })
+}
+
+/// The front of a frame, with room for all of it where its len is told: it grows without being copied.
+fn begun(alloc: Global, front: &[u8]) -> Result<Vec<u8>, NoMemory>
+    ensures { IfOk result (λ rest. rest.items ≡ front.now) }
+{
+    let len = told_len(front).unwrap_or(0);
+    let mut rest = Vec::with_capacity(alloc, len)?;
+    rest.extend_from_slice(front)?;
+    Ok(rest)
 }
 
 /// What is kept of a rest: all of it, or the four bytes of a bad len.

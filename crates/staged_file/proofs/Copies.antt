@@ -28,7 +28,7 @@ Copies-none touched shown size bytes told len zeros = record {
 
 module _ (touched : List ℕ) (shown : List ℕ → ℕ → ℕ) (size : ℕ) (bytes : List ℕ) (told : List Bool) (block : ℕ) (copies : Copies touched shown size bytes told block)
     (held : Bool) (other : List ℕ) (held_is : held ≡ is_among touched block)
-    (reads : IsTrue held → (source : List ℕ) → Reads (shown source) 0 bytes other (block * 65536) (min size ((block + 1) * 65536))) (same : held ≡ false → other ≡ bytes) where
+    (reads : IsTrue held → (source : List ℕ) → Reads (shown source) 0 bytes other (block * 65536) (min size ((block + 1) * 65536))) (same : held ≡ false → (i : ℕ) → get_or other i 0 ≡ get_or bytes i 0) where
   told_more : (b : ℕ) → (b < block) ⊎ (block ≤ b) → b < block + 1 → get_or (told ++ held ∷ []) b false ≡ is_among touched b
   told_more b (inl lt) l = get_or_append_left told (held ∷ []) false b (let n = copies.len in omega arith) ∙ copies.told_of b lt
   told_more b (inr ge) l = get_or_at told held [] false b (let n = copies.len in omega arith) ∙ held_is ∙ ap (is_among touched) (let e : block ≡ b = omega arith in e)
@@ -39,14 +39,14 @@ module _ (touched : List ℕ) (shown : List ℕ → ℕ → ℕ) (size : ℕ) (b
     where
       decide : (held ≡ true) ⊎ (held ≡ false) → get_or other i 0 ≡ get_or bytes i 0
       decide (inl t) = (reads t []).below i (omega arith)
-      decide (inr f) = ap (λ xs. get_or xs i 0) (same f)
+      decide (inr f) = same f i
 
   above : (i : ℕ) → (block + 1) * 65536 ≤ i → get_or other i 0 ≡ get_or bytes i 0
   above i le = decide (cases_Bool held)
     where
       decide : (held ≡ true) ⊎ (held ≡ false) → get_or other i 0 ≡ get_or bytes i 0
       decide (inl t) = (reads t []).above i (omega arith)
-      decide (inr f) = ap (λ xs. get_or xs i 0) (same f)
+      decide (inr f) = same f i
 
   in_block : (i : ℕ) → block * 65536 ≤ i → i < (block + 1) * 65536 → i / 65536 ≡ block
   in_block i a b = omega arith
@@ -60,7 +60,7 @@ module _ (touched : List ℕ) (shown : List ℕ → ℕ → ℕ) (size : ℕ) (b
   zeros_more : (i : ℕ) → is_among touched (i / 65536) ≡ false → (i < block * 65536) ⊎ (block * 65536 ≤ i) → (i < (block + 1) * 65536) ⊎ ((block + 1) * 65536 ≤ i) → get_or other i 0 ≡ 0
   zeros_more i f (inl lt) d = below i lt ∙ copies.zeros i f
   zeros_more i f (inr ge) (inr past) = above i past ∙ copies.zeros i f
-  zeros_more i f (inr ge) (inl lt) = ap (λ xs. get_or xs i 0) (same (held_is ∙ ap (is_among touched) (sym (in_block i ge lt)) ∙ f)) ∙ copies.zeros i f
+  zeros_more i f (inr ge) (inl lt) = same (held_is ∙ ap (is_among touched) (sym (in_block i ge lt)) ∙ f) i ∙ copies.zeros i f
 
   pub Copies-more : Copies touched shown size other (told ++ held ∷ []) (block + 1)
   Copies-more = record {

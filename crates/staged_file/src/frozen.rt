@@ -1,5 +1,5 @@
 //! A copy of staged content apart from its pool, for a flush that reads the rest of the source meanwhile.
-ghost use Rattle.std.specs.Prelude.{◌≡◌, ℕ, ◌+◌, ◌*◌, ◌/◌, ◌<◌, ◌≤◌, List, IsTrue, IfOk, false, length, min, slice_index, slice_index_or, vec_len, vec_capacity};
+ghost use Rattle.std.specs.Prelude.{◌≡◌, ℕ, ◌+◌, ◌*◌, ◌/◌, ◌<◌, ◌≤◌, ◌++◌, List, IsTrue, IfOk, false, length, min, replicate, slice_index, slice_index_or, vec_len, vec_capacity};
 ghost use Rattle.staging_spec.specs.Blocks.{is_among};
 ghost use Rattle.staging_spec.specs.Wanted.{wanted_by_flush};
 ghost use Rattle.staged_file.specs.Frozen.{frozen_content, frozen_wanted, Copies, Fills};
@@ -42,8 +42,8 @@ impl Staged {
     {
         let blocks = self.len().div_ceil(BLOCK);
         let mut touched = Vec::with_capacity(alloc, blocks as usize)?;
-        let mut bytes = zero_bytes(alloc, self.len() as usize)?;
-        self.copy_touched(pool, blocks, bytes.as_mut_slice(), &mut touched);
+        let mut bytes = Vec::with_capacity(alloc, self.len() as usize)?;
+        self.copy_blocks(pool, blocks, &mut bytes, &mut touched);
         let limit = self.limit();
         Ok(Frozen {
             bytes,
@@ -52,15 +52,20 @@ impl Staged {
         })
     }
 
-    /// Copies the touched blocks, and tells of each block whether it is one.
-    fn copy_touched(&self, pool: &BlockPool, blocks: u64, bytes: &mut [u8], touched: &mut Vec<bool>)
+    /// Copies the blocks of the content one behind the other, into the capacity, and tells of each whether it is touched.
+    fn copy_blocks(
+        &self,
+        pool: &BlockPool,
+        blocks: u64,
+        bytes: &mut Vec<u8>,
+        touched: &mut Vec<bool>,
+    )
         requires staged { IsStaged pool.now.chains self.now }
-        requires size { length bytes.old ≡ self.now.size }
         requires blocks { (blocks * 65536 < self.now.size + 65536) × (self.now.size ≤ blocks * 65536) }
-        requires empty { length touched.old.items ≡ 0 }
-        requires room { blocks ≤ vec_capacity touched.old }
-        requires zeros { (i : ℕ) → slice_index bytes.old i ≡ 0 }
-        ensures { Copies (touched_of pool.now.chains self.now) (byte_at pool.now.chains self.now) self.now.size bytes.new touched.new.items blocks }
+        requires empty { (vec_len bytes.old ≡ 0) × (length touched.old.items ≡ 0) }
+        requires room { (self.now.size ≤ vec_capacity bytes.old) × (blocks ≤ vec_capacity touched.old) }
+        ensures copies { Copies (touched_of pool.now.chains self.now) (byte_at pool.now.chains self.now) self.now.size bytes.new.items touched.new.items blocks }
+        ensures len { vec_len bytes.new ≡ self.now.size }
     {
         for block in 0..blocks {
             let held = self.copy_block(pool, block, bytes);
@@ -68,19 +73,25 @@ impl Staged {
         }
     }
 
-    /// Copies a block where it is touched, and tells whether it is.
-    fn copy_block(&self, pool: &BlockPool, block: u64, bytes: &mut [u8]) -> bool
+    /// Copies a block behind those before it, up to the end of the content: zeros where it isn't touched. Tells whether it
+    /// is.
+    fn copy_block(&self, pool: &BlockPool, block: u64, bytes: &mut Vec<u8>) -> bool
         requires staged { IsStaged pool.now.chains self.now }
-        requires size { length bytes.old ≡ self.now.size }
         requires block { block * 65536 < self.now.size }
+        requires behind { vec_len bytes.old ≡ block * 65536 }
+        requires room { self.now.size ≤ vec_capacity bytes.old }
         ensures held { result ≡ is_among (touched_of pool.now.chains self.now) block }
-        ensures bytes { IsTrue result → (source : List ℕ) → Reads (byte_at pool.now.chains self.now source) 0 bytes.old bytes.new (block * 65536) (min self.now.size ((block + 1) * 65536)) }
-        ensures same { result ≡ false → bytes.new ≡ bytes.old }
+        ensures bytes { IsTrue result → (source : List ℕ) → Reads (byte_at pool.now.chains self.now source) 0 bytes.old.items bytes.new.items (block * 65536) (min self.now.size ((block + 1) * 65536)) }
+        ensures zeros { result ≡ false → (i : ℕ) → slice_index bytes.new.items i ≡ slice_index bytes.old.items i }
+        ensures len { vec_len bytes.new ≡ min self.now.size ((block + 1) * 65536) }
+        ensures room { vec_capacity bytes.old ≤ vec_capacity bytes.new }
     {
-        if !self.holds(pool, block) {
+        let count = BLOCK.min(self.len() - block * BLOCK) as usize;
+        let Some(part) = self.block(pool, block) else {
+            add_zeros(bytes, count);
             return false;
-        }
-        self.read_block(pool, block, 0, bytes, 0, &[]);
+        };
+        add_bytes(bytes, &part[..count]);
         true
     }
 }
@@ -108,14 +119,25 @@ impl Frozen {
     }
 }
 
-/// So many zeros. `NoMemory` where memory for them was refused.
-fn zero_bytes(alloc: Global, count: usize) -> Result<Vec<u8>, NoMemory>
-    ensures len { IfOk result (λ bytes. length bytes.items ≡ count) }
-    ensures zeros { IfOk result (λ bytes. (i : ℕ) → slice_index bytes.items i ≡ 0) }
+/// Appends zeros, into the capacity.
+fn add_zeros(bytes: &mut Vec<u8>, count: usize)
+    requires { vec_len bytes.old + count ≤ vec_capacity bytes.old }
+    ensures bytes { bytes.new.items ≡ bytes.old.items ++ replicate count 0 }
+    ensures len { vec_len bytes.new ≡ vec_len bytes.old + count }
+    ensures room { vec_capacity bytes.old ≤ vec_capacity bytes.new }
 {
-    let mut bytes = Vec::new(alloc);
-    bytes.resize(count, 0)?;
-    Ok(bytes)
+    let len = bytes.len();
+    bytes.resize(len + count, 0).unwrap();
+}
+
+/// Appends bytes, into the capacity.
+fn add_bytes(bytes: &mut Vec<u8>, part: &[u8])
+    requires { vec_len bytes.old + length part.now ≤ vec_capacity bytes.old }
+    ensures bytes { bytes.new.items ≡ bytes.old.items ++ part.now }
+    ensures len { vec_len bytes.new ≡ vec_len bytes.old + length part.now }
+    ensures room { vec_capacity bytes.old ≤ vec_capacity bytes.new }
+{
+    bytes.extend_from_slice(part).unwrap();
 }
 
 /// Copies the source's bytes below the limit into the blocks that aren't touched.

@@ -1,6 +1,7 @@
 //! Staged content as a chain in a pool, and the small changes of it that the calls are made of.
-ghost use Rattle.std.specs.Prelude.{◌≡◌, ℕ, ◌+◌, ◌-◌, ◌*◌, ◌/◌, ◌%◌, ◌≤◌, ◌<◌, max, min, List, None, IsTrue, false, length, slice_index};
-ghost use Rattle.block_pool.specs.Chains.{ChainMap};
+ghost use Rattle.std.specs.Prelude.{◌≡◌, ℕ, ◌+◌, ◌-◌, ◌*◌, ◌/◌, ◌%◌, ◌≤◌, ◌<◌, max, min, List, None, IfSome, IsTrue, false, length, slice_index};
+ghost use Rattle.std.specs.Option.{option_copied};
+ghost use Rattle.block_pool.specs.Chains.{ChainMap, at, entries_of};
 ghost use Rattle.block_pool.specs.Pool.{give_chain, Keeps};
 ghost use Rattle.staging_spec.specs.Blocks.{is_among, put_number, untouch};
 ghost use Rattle.staging_spec.specs.Staging.{staged};
@@ -118,6 +119,15 @@ impl Staged {
         ensures { result ≡ is_among (touched_of pool.now.chains self.now) block }
     {
         pool.holds(&self.chain, block)
+    }
+
+    /// The bytes of a block, lent, where it is touched.
+    pub(crate) fn block<'a>(&self, pool: &'a BlockPool, block: u64) -> Option<&'a [u8]>
+        requires { IsStaged pool.now.chains self.now }
+        ensures ok { option_copied result ≡ at (entries_of pool.now.chains self.now.chain) block }
+        ensures len { IfSome result (λ bytes. length bytes.now ≡ 65536) }
+    {
+        pool.block(&self.chain, block)
     }
 
     /// Touches a block, which is all zeros then. A block must be free.

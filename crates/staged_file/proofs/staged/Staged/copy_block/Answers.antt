@@ -1,13 +1,11 @@
-use Rattle.std.proofs.Common.{◌≡◌, ◌+◌, ◌*◌, max, min, refl, subst, length, arith}
-use Rattle.staged_file.specs.Staged.{byte_at}
-use Rattle.staged_file.specs.Steps.{Reads}
+-- A block is touched where the chain has it.
+use Rattle.std.proofs.Common.{is_some, sym, ap, ◌∙◌}
+use Rattle.block_pool.specs.Chains.{entries_of}
+use Rattle.staged_file.proofs.Positions.{among-positions}
 use Rattle.staged_file.proofs.staged.Staged.copy_block.Goals as goal
 
-pub returns-clause-bytes : goal.returns-clause-bytes
-returns-clause-bytes c t source =
-    let size = c.requires.size in
-    let low : max 0 (c.args.block * 65536) ≡ c.args.block * 65536 = omega arith in
-    let high : min (0 + length c.args.bytes.now) ((c.args.block + 1) * 65536) ≡ min c.args.self.now.size ((c.args.block + 1) * 65536) = omega arith in
-    let shown = byte_at c.args.pool.now.chains c.args.self.now source in
-    subst (λ n. Reads shown 0 c.args.bytes.now c.read_block.new.out n (min c.args.self.now.size ((c.args.block + 1) * 65536))) low
-    (subst (λ n. Reads shown 0 c.args.bytes.now c.read_block.new.out (max 0 (c.args.block * 65536)) n) high (c.read_block.ensures source refl))
+pub returns-in_default-clause-held : goal.returns-in_default-clause-held
+returns-in_default-clause-held c = ap is_some c.in_default.ensures.ok ∙ sym (among-positions (entries_of c.args.pool.now.chains c.args.self.now.chain) c.args.block)
+
+pub returns-clause-held : goal.returns-clause-held
+returns-clause-held c = ap is_some c.in-Some.ensures.ok ∙ sym (among-positions (entries_of c.args.pool.now.chains c.args.self.now.chain) c.args.block)
