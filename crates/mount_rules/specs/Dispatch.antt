@@ -8,7 +8,7 @@ use Rattle.fuse_replies.specs.declared.reply.Reply.{Reply}
 use Rattle.fuse_replies.specs.declared.reply.Reply.TheVariants.{Error, Silent}
 use Rattle.fuse_requests.specs.Opcodes as opcodes
 use Rattle.fuse_requests.specs.declared.request.Request.{Request}
-use Rattle.fuse_requests.specs.declared.request.Request.TheVariants.{Lookup, Forget, BatchForget, Interrupt, Getattr, Setattr, Init, Opening, Read, Write, Flush, Fsync, Release, Statfs, Opendir, Readdir, Releasedir, Fsyncdir, Create, Destroy, Unknown}
+use Rattle.fuse_requests.specs.declared.request.Request.TheVariants.{Lookup, Forget, BatchForget, Interrupt, Getattr, Setattr, Readlink, Symlink, Mknod, Mkdir, Unlink, Rmdir, Rename, Rename2, Init, Opening, Read, Write, Flush, Fsync, Release, Statfs, Opendir, Readdir, Releasedir, Fsyncdir, Create, Destroy, Unknown}
 use Rattle.fuse_replies.specs.Errno.{einval, enosys, enospc, eproto}
 use Rattle.mount_model.specs.declared.config.Config.{Config}
 use Rattle.mount_rules.specs.Mount.{MountModel}
@@ -24,14 +24,22 @@ use Rattle.mount_rules.specs.Requests.Fsyncdir as fsyncdir
 use Rattle.mount_rules.specs.Requests.Getattr as getattr
 use Rattle.mount_rules.specs.Requests.Init as init
 use Rattle.mount_rules.specs.Requests.Lookup as lookup
+use Rattle.mount_rules.specs.Requests.Mkdir as mkdir
+use Rattle.mount_rules.specs.Requests.Mknod as mknod
 use Rattle.mount_rules.specs.Requests.Open as open_file
 use Rattle.mount_rules.specs.Requests.Opendir as opendir
 use Rattle.mount_rules.specs.Requests.Read as read
 use Rattle.mount_rules.specs.Requests.Readdir as readdir
+use Rattle.mount_rules.specs.Requests.Readlink as readlink
 use Rattle.mount_rules.specs.Requests.Release as release
 use Rattle.mount_rules.specs.Requests.Releasedir as releasedir
+use Rattle.mount_rules.specs.Requests.Rename as rename
+use Rattle.mount_rules.specs.Requests.Rename2 as rename2
+use Rattle.mount_rules.specs.Requests.Rmdir as rmdir
 use Rattle.mount_rules.specs.Requests.Setattr as setattr
 use Rattle.mount_rules.specs.Requests.Statfs as statfs
+use Rattle.mount_rules.specs.Requests.Symlink as symlink
+use Rattle.mount_rules.specs.Requests.Unlink as unlink
 use Rattle.mount_rules.specs.Requests.Unserved as unserved
 use Rattle.mount_rules.specs.Requests.Write as write
 use Rattle.mount_rules.specs.Rules.{AtTake, Rules, Taken}
@@ -44,8 +52,10 @@ silent_opcodes = opcodes.forget ∷ opcodes.interrupt ∷ opcodes.batch_forget �
 -- the requests that are served and get a reply
 abbrev pub served_opcodes : List ℕ
 served_opcodes =
-    opcodes.lookup ∷ opcodes.getattr ∷ opcodes.setattr ∷ opcodes.opening ∷ opcodes.reading ∷ opcodes.writing ∷ opcodes.statfs
-    ∷ opcodes.release ∷ opcodes.fsync ∷ opcodes.flush ∷ opcodes.init ∷ opcodes.opendir ∷ opcodes.readdir ∷ opcodes.releasedir ∷ opcodes.fsyncdir ∷ opcodes.create ∷ opcodes.destroy ∷ []
+    opcodes.lookup ∷ opcodes.getattr ∷ opcodes.setattr ∷ opcodes.readlink ∷ opcodes.symlink ∷ opcodes.mknod ∷ opcodes.mkdir
+    ∷ opcodes.unlink ∷ opcodes.rmdir ∷ opcodes.rename ∷ opcodes.opening ∷ opcodes.reading ∷ opcodes.writing ∷ opcodes.statfs
+    ∷ opcodes.release ∷ opcodes.fsync ∷ opcodes.flush ∷ opcodes.init ∷ opcodes.opendir ∷ opcodes.readdir ∷ opcodes.releasedir
+    ∷ opcodes.fsyncdir ∷ opcodes.create ∷ opcodes.destroy ∷ opcodes.rename2 ∷ []
 
 abbrev pub is_among : List ℕ → ℕ → Bool
 is_among opcodes opcode = list_any (λ o. o == opcode) opcodes
@@ -78,9 +88,16 @@ rules_of (Releasedir node fh) = releasedir.rules node fh
 rules_of (Fsyncdir node fh) = fsyncdir.rules node fh
 rules_of (Create node name) = create.rules node name
 rules_of Destroy = destroy.rules
+rules_of (Readlink node) = readlink.rules node
+rules_of (Symlink node name target) = symlink.rules node name target
+rules_of (Mknod node mode name) = mknod.rules node mode name
+rules_of (Mkdir node name) = mkdir.rules node name
+rules_of (Unlink node name) = unlink.rules node name
+rules_of (Rmdir node name) = rmdir.rules node name
+rules_of (Rename node newdir name newname) = rename.rules node (record { name = name; newdir = newdir; newname = newname })
+rules_of (Rename2 node newdir flags name newname) = rename2.rules node flags (record { name = name; newdir = newdir; newname = newname })
 rules_of Interrupt = unserved.rules None
 rules_of (Unknown opcode) = unserved.rules (unread opcode)
-rules_of _ = unserved.rules (Some enosys)
 
 -- FORGET, BATCH_FORGET and INTERRUPT never get a reply, also where their bodies could not be read
 abbrev pub is_silent : Request → Bool

@@ -16,7 +16,8 @@ use Rattle.claim_spec.specs.declared.claim.ClaimKey.TheVariants as key
 use Rattle.fuse_replies.specs.declared.reply.Reply.{Reply}
 use Rattle.fuse_replies.specs.declared.reply.Reply.TheVariants.{Content, Empty, Error, Entry, Created as CreatedReply, Written}
 use Rattle.fuse_requests.specs.declared.request.Request.{Request}
-use Rattle.fuse_requests.specs.declared.request.Request.TheVariants.{BatchForget, Create, Flush, Forget, Fsync, Getattr, Lookup, Opening, Opendir, Read, Setattr, Write}
+use Rattle.fuse_requests.specs.declared.request.Request.TheVariants.{BatchForget, Create, Flush, Forget, Fsync, Getattr, Lookup, Mkdir, Mknod, Opening, Opendir, Read}
+use Rattle.fuse_requests.specs.declared.request.Request.TheVariants.{Rename, Rename2, Rmdir, Setattr, Symlink, Unlink, Write}
 use Rattle.handle_table.specs.Handles.{Opened}
 use Rattle.inode_spec.specs.Inodes.{lookups_of}
 use Rattle.mount_model.specs.declared.config.Config.{Config}
@@ -130,6 +131,13 @@ WantsOfFiles = (config : Config) (mount : MountModel) (request : Request) (wante
 abbrev pub most_asked : Request → Option ℕ
 most_asked (Lookup node name) = Some 2
 most_asked (Create node name) = Some 1
+most_asked (Mknod node mode name) = Some 1
+most_asked (Symlink node name target) = Some 1
+most_asked (Mkdir node name) = Some 1
+most_asked (Unlink node name) = Some 1
+most_asked (Rmdir node name) = Some 2
+most_asked (Rename node newdir name newname) = Some 4
+most_asked (Rename2 node newdir flags name newname) = Some 4
 most_asked (Getattr node) = Some 1
 most_asked (Opening node flags) = Some 1
 most_asked (Setattr node valid size mtime nanos) = Some 1

@@ -11,6 +11,7 @@ pub mod OneThread
 pub mod Overlap
 pub mod Plans
 pub mod Reading
+pub mod Removing
 pub mod Requests
 pub mod Rules
 pub mod Showing

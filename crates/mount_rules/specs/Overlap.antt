@@ -25,11 +25,12 @@ pub record Shared : Type 0 where
   pub mount : MountModel
   pub open_calls : List OpenCall
 
--- What happens: a call is taken; the open call at a place is done, having observed this; a call that asks nothing is
--- taken and done; the clock ticks.
+-- What happens: a call is taken; the open call at a place is done, having observed this; or it ends short, for want of
+-- memory, and leaves the mount as it was; a call that asks nothing is taken and done; the clock ticks.
 pub data Turn : Type 0 where
   take : (at : AtTake) (request : Request) → Turn
   done : (place : ℕ) (seen : List Observed) → Turn
+  short : (place : ℕ) → Turn
   at_once : (at : AtTake) (request : Request) → Turn
   tick : (seconds : ℕ) → Turn
 
@@ -47,11 +48,12 @@ abbrev pub ApartFromAll : List Claim → List OpenCall → Type 0
 ApartFromAll claimed others = AllByRecursion (λ (o : OpenCall). AreApart claimed o.claimed) others
 
 -- The turn may happen: a call is taken, or made at once, where its claims conflict with none that is held; one that is
--- taken asks something; and the call that is done is under way.
+-- taken asks something; and the call that ends is under way.
 abbrev pub MayHappen : Shared → Turn → Type 0
 MayHappen shared (take at request) =
     (plan at shared.mount request [] ≢ plans.done) × ApartFromAll (claims shared.mount request) shared.open_calls
 MayHappen shared (done place seen) = (o : OpenCall) × (slice_get shared.open_calls place ≡ Some o)
+MayHappen shared (short place) = (o : OpenCall) × (slice_get shared.open_calls place ≡ Some o)
 MayHappen shared (at_once at request) = ApartFromAll (claims shared.mount request) shared.open_calls
 MayHappen shared (tick seconds) = Unit {0}
 
@@ -63,6 +65,7 @@ after_done shared place seen (Some o) =
 abbrev pub after_turn : Shared → Turn → Shared
 after_turn shared (take at request) = record shared { open_calls = opened_at at shared.mount request ∷ shared.open_calls }
 after_turn shared (done place seen) = after_done shared place seen (slice_get shared.open_calls place)
+after_turn shared (short place) = record shared { open_calls = others_than place shared.open_calls }
 after_turn shared (at_once at request) = record shared { mount = mount_after at shared.mount request [] }
 after_turn shared (tick seconds) = shared
 

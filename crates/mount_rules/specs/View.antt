@@ -34,15 +34,17 @@ sight_at table number = option_map (sight_of number) (fin.get table.nodes number
 abbrev pub kept_at : NodeTable → ℕ → Option Metadata
 kept_at table number = option_and_then (λ (node : Node). option_map (λ (file : File). file.kept.meta) node.file) (fin.get table.nodes number)
 
--- A node that a name has, by its number.
+-- A node that a name has, by its number, with what is staged of it.
 pub record Named : Type 0 where
   pub number : ℕ
   pub sight : Sight
+  pub staged : Option StagedContent
 
 -- the current node of a name
-abbrev pub current_at : NodeTable → List ℕ → Option Named
-current_at table name =
-    option_and_then (λ number. option_map (λ sight. record { number = number; sight = sight }) (sight_at table number)) (fin.get table.current name)
+abbrev pub current_at : MountModel → List ℕ → Option Named
+current_at mount name =
+    option_and_then (λ number. option_map (λ sight. record { number = number; sight = sight; staged = fin.get mount.staged number }) (sight_at mount.table number))
+    (fin.get mount.table.current name)
 
 -- Where a request looks: at the node that its head names, at a second directory, at a handle, at what is kept of the
 -- node's object, at what is staged of it, at the current node of a name in the head's directory, and at the nodes of a list.
@@ -69,8 +71,8 @@ abbrev pub child_of : Sight → List ℕ → List ℕ
 child_of directory part = directory.name ++ part
 
 -- the current node of a part of a directory
-abbrev pub old_at : NodeTable → Option Sight → List ℕ → Option Named
-old_at table directory part = option_and_then (λ (d : Sight). current_at table (child_of d part)) directory
+abbrev pub old_at : MountModel → Option Sight → List ℕ → Option Named
+old_at mount directory part = option_and_then (λ (d : Sight). current_at mount (child_of d part)) directory
 
 -- The one function that looks into a mount for a request.
 abbrev pub view_of : MountModel → Looks → View
@@ -82,6 +84,6 @@ view_of mount looks =
       handle = option_and_then (fin.get mount.handles) looks.handle;
       kept = option_and_then (kept_at mount.table) looks.kept;
       staged = option_and_then (fin.get mount.staged) looks.staged;
-      old = option_and_then (old_at mount.table node) looks.old;
+      old = option_and_then (old_at mount node) looks.old;
       listed = map (sight_at mount.table) looks.listed;
     }
