@@ -28,7 +28,7 @@ module _ (config : Config) (state : RunState) (call : Call) (is : IsMount state.
 
 -- ---- each generation has content
 -- the same of all nodes of a table
-abbrev ShowContent : BucketState → List LogEvent → NodeTable → Type 0
+abbrev pub ShowContent : BucketState → List LogEvent → NodeTable → Type 0
 ShowContent start log table = (number : ℕ) (node : Node) (shown : ℕ × ℕ) → fin.get table.nodes number ≡ Some node → shown_of node ≡ Some shown
     → HasContent start log node.name shown.0 shown.1
 
@@ -36,7 +36,7 @@ content_stays : (start : BucketState) (log more : List LogEvent) (name : List �
 content_stays start log more name generation size has = (has.0, content_of-grown start log more name generation has.0 has.1, has.2)
 
 -- what each node of a table shows has content where each was there, or shows what was told
-show_content : (start : BucketState) (log more whole : List LogEvent) (table after : NodeTable) → whole ≡ log ++ more
+pub show_content : (start : BucketState) (log more whole : List LogEvent) (table after : NodeTable) → whole ≡ log ++ more
     → NodesFrom (HasContent start whole) table after → ShowContent start log table → ShowContent start whole after
 show_content start log more whole table after grown from show number node shown there has = by (from number node there)
   where
@@ -48,14 +48,14 @@ show_content start log more whole table after grown from show number node shown 
     by (inr told) = subst (ShowsBy (HasContent start whole) node.name) has told
 
 -- files are nodes that show something
-files_show : (state : RunState) → FilesHaveContent state → ShowContent state.store.start state.store.log state.mount.table
+pub files_show : (state : RunState) → FilesHaveContent state → ShowContent state.store.start state.store.log state.mount.table
 files_show state files number node shown there has = by node.file refl has
   where
     by : (file : Option File) → node.file ≡ file → shown_of (record node { file = file }) ≡ Some shown → HasContent state.store.start state.store.log node.name shown.0 shown.1
     by None is e = absurd (no_Some e)
     by (Some file) is e = subst (λ (s : ℕ × ℕ). HasContent state.store.start state.store.log node.name s.0 s.1) (same_Some e) (files number node file there is)
 
-show_files : (start : BucketState) (log : List LogEvent) (table : NodeTable) → ShowContent start log table
+pub show_files : (start : BucketState) (log : List LogEvent) (table : NodeTable) → ShowContent start log table
     → (number : ℕ) (node : Node) (file : File) → fin.get table.nodes number ≡ Some node → node.file ≡ Some file → HasContent start log node.name file.source file.size
 show_files start log table show number node file there is = show number node (file.source, file.size) there (ap (λ f. shown_of (record node { file = f })) is)
 

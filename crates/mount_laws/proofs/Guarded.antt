@@ -41,7 +41,7 @@ use Rattle.mount_laws.proofs.Stores.{observes_none}
 -- ---- whether a generation is live
 module _ (b : BucketState) (name : List ℕ) (generation : ℕ) where
   -- then an insert on it alone is made
-  met_live : IsSome (object_of b name generation) → is_met (Some generation) (generation_at b name) ≡ true
+  pub met_live : IsSome (object_of b name generation) → is_met (Some generation) (generation_at b name) ≡ true
   met_live = by (object_at b name)
     where
       one : (o : Object) (same : Bool) → (o.meta.generation == generation) ≡ same → IsSome (if same then Some o else None) → (generation == o.meta.generation) ≡ true
@@ -54,7 +54,7 @@ module _ (b : BucketState) (name : List ℕ) (generation : ℕ) where
       by (Some o) live = one o (o.meta.generation == generation) refl live
 
   -- and else it isn't
-  met_gone : 1 ≤ generation → object_of b name generation ≡ None → is_met (Some generation) (generation_at b name) ≡ false
+  pub met_gone : 1 ≤ generation → object_of b name generation ≡ None → is_met (Some generation) (generation_at b name) ≡ false
   met_gone numbered = by (object_at b name)
     where
       not_same : (m n : ℕ) → m ≢ n → (m == n) ≡ false
@@ -75,7 +75,7 @@ module _ (b : BucketState) (name : List ℕ) (generation : ℕ) where
 
 -- ---- what a flush comes to
 -- the bucket after one more operation
-bucket_then : (store : Store) (op : Operation) → bucket_of (after_operation store op) ≡ state_after op (bucket_of store)
+pub bucket_then : (store : Store) (op : Operation) → bucket_of (after_operation store op) ≡ state_after op (bucket_of store)
 bucket_then store op = state_at-pushed store.start store.log (record { lane = 1; op = op; mode = modes.Done })
 
 module _ (config : Config) (state : RunState) (node fh : ℕ) (file : Sight) (staged : StagedContent) (settled : IsSettled config state)

@@ -1,5 +1,5 @@
 -- What is known where a guard refuses nothing: what it looked at is there.
-use Rattle.std.proofs.Common.{◌≡◌, ℕ, Bool, true, false, List, Option, Some, None, refl, length, ◌≤◌, nat_le, nat_eq, arith}
+use Rattle.std.proofs.Common.{◌≡◌, ℕ, Bool, true, false, List, Option, Some, None, refl, ap, ◌∙◌, length, ◌≤◌, nat_le, nat_eq, arith}
 use Rattle.std.proofs.lemmas.Bool.Decides.{Decides-eqb, nat_tests}
 use Rattle.std.specs.Prelude.{if◌then◌else◌, ◌&&◌, not, is_some, option_and_then}
 use Rattle.std.specs.Option.{option_map_or}
@@ -55,6 +55,16 @@ in_directory-none seen next none = by (on_live-none seen _ none)
 
     by : SeesLive seen (λ sight. if is_directory sight.kind then next sight else Some enotdir) → SeesDirectory seen next
     by s = kinds s.sight s.is s.live s.sight.kind refl s.next_none
+
+-- of two guards behind this one, where one asks no less than the other
+pub in_directory-less : (seen : Option Sight) (next less : Sight → Option ℕ) → ((sight : Sight) → next sight ≡ None → less sight ≡ None)
+    → in_directory seen next ≡ None → in_directory seen less ≡ None
+in_directory-less seen next less fewer none =
+    let d = in_directory-none seen next none in
+    ap (λ s. in_directory s less) d.is
+    ∙ ap (λ live. if live then (if is_directory d.sight.kind then less d.sight else Some enotdir) else Some estale) d.live
+    ∙ ap (λ kind. if is_directory kind then less d.sight else Some enotdir) d.directory
+    ∙ fewer d.sight d.next_none
 
 -- a name in a directory is a component, and its path is not too long
 pub record IsChild (directory : Sight) (part : List ℕ) : Type 0 where

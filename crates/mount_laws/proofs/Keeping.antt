@@ -11,7 +11,7 @@ use Rattle.claim_spec.specs.Conflicts.{IsClaimed, IsOwned}
 use Rattle.claim_spec.specs.declared.claim.Claim.{Claim}
 use Rattle.claim_spec.specs.declared.claim.ClaimKey.{ClaimKey}
 use Rattle.claim_spec.specs.declared.claim.ClaimKey.TheVariants as key
-use Rattle.inode_spec.specs.Inodes.{Names, forgotten, forgotten_at, granted, let_go, made_current, with_inode, without_current}
+use Rattle.inode_spec.specs.Inodes.{Names, detached, forgotten, forgotten_at, granted, let_go, made_current, with_inode, without_current}
 use Rattle.mount_rules.specs.Mount.{File, Node, NodeTable}
 use Rattle.mount_rules.specs.View.{Sight, kept_at, sight_at, sight_of}
 use Rattle.mount_laws.proofs.Changes.{on_forgotten, on_forgotten_at, on_let_go}
@@ -134,6 +134,14 @@ module _ (claimed : List Claim) (table : NodeTable) where
 
       fresh : (number : ℕ) (sight : Sight) → sight_at table number ≡ Some sight → number ≡ table.next → ⊥
       fresh number sight is = under number sight (fin.get table.nodes number) refl is
+
+  -- a name that is claimed has no current node any more
+  pub TableKeeps-detached : (name : List ℕ) → IsClaimed claimed (key.Name name) → TableKeeps claimed table (detached table name)
+  TableKeeps-detached name named = record {
+    sights = λ number sight is mine. is;
+    kept = λ number sight is mine other. refl;
+    current = λ q mine owned. get-remove_name table.current name q ∙ other_name q name _ _ (λ same. mine (subst (λ s. IsClaimed claimed (key.Name s)) (sym same) named));
+  }
 
   -- a node that is owned is written anew, or goes
   module _ (k : ℕ) (owned : IsOwned claimed (key.Node k)) where

@@ -1,5 +1,6 @@
 -- The laws of the requests and of runs, for the crates above.
 pub mod Asking
+pub mod Calls
 pub mod Changes
 pub mod Children
 pub mod Contents
@@ -10,6 +11,7 @@ pub mod Guarding
 pub mod Keeping
 pub mod Leaving
 pub mod Lengths
+pub mod Making
 pub mod Memory
 pub mod Mounts
 pub mod NewGenerations
@@ -19,6 +21,10 @@ pub mod ParentLaws
 pub mod Quiet
 pub mod Readings
 pub mod Refusals
+pub mod Removals
+pub mod Removing
+pub mod RenameLaws
+pub mod Renamed
 pub mod RequestLaws
 pub mod Requests
 pub mod RunLaws

@@ -12,7 +12,7 @@ use Rattle.mount_model.specs.Observing.{Observed}
 use Rattle.mount_rules.specs.Rules.{AtTake}
 use Rattle.mount_rules.specs.Dispatch.{claims, goes_on, is_init, is_silent, mount_after, plan, rules_of, view_in}
 use Rattle.mount_rules.specs.Mount.{IsMount, MountModel, first_mount}
-use Rattle.mount_rules.specs.Overlap.{ApartFromAll, HappenFrom, MayHappen, OpenCall, OpenCallsSee, SeesAsTaken, Shared, Turn, after_done, after_turn, after_turns, at_once, done, others_than, take, tick}
+use Rattle.mount_rules.specs.Overlap.{ApartFromAll, HappenFrom, MayHappen, OpenCall, OpenCallsSee, SeesAsTaken, Shared, Turn, after_done, after_turn, after_turns, at_once, done, others_than, short, take, tick}
 use Rattle.mount_rules.specs.Plans as plans
 use Rattle.mount_rules.specs.Plans.{Plan, Step}
 use Rattle.mount_rules.specs.View.{View}
@@ -156,6 +156,11 @@ IsUnderWay-turn shared (done place seen) way (o, there) =
   where
     going : IsGoing shared.mount o
     going = at_place (IsGoing shared.mount) place shared.open_calls o there way.each
+IsUnderWay-turn shared (short place) way (o, there) = record {
+  is = way.is;
+  each = all_but (IsGoing shared.mount) place shared.open_calls way.each;
+  apart = apart_but place shared.open_calls way.apart;
+}
 IsUnderWay-turn shared (at_once at request) way may = record {
   is = stays_mount at shared.mount request [] way.is;
   each = all_going shared.mount way.is at request [] shared.open_calls may way.each;

@@ -10,6 +10,7 @@ use Rattle.fuse_replies.specs.declared.reply.Reply.TheVariants.{Error, Silent}
 use Rattle.fuse_requests.specs.declared.request.Request.{Request}
 use Rattle.fuse_requests.specs.declared.request.Request.TheVariants.{Lookup, Forget, BatchForget, Interrupt, Getattr, Setattr, Init, Opening, Read, Write, Flush, Fsync}
 use Rattle.fuse_requests.specs.declared.request.Request.TheVariants.{Release, Statfs, Opendir, Readdir, Releasedir, Fsyncdir, Create, Destroy, Unknown}
+use Rattle.fuse_requests.specs.declared.request.Request.TheVariants.{Mkdir, Mknod, Readlink, Rename, Rename2, Rmdir, Symlink, Unlink}
 use Rattle.inode_spec.specs.Inodes.{lookups_of}
 use Rattle.mount_rules.specs.Dispatch.{early, goes_on, is_among, is_full, is_idle, is_init, is_silent, mount_after, plan, claims}
 use Rattle.mount_rules.specs.Dispatch.{reply_to, rules_of, served_opcodes, silent_opcodes, taken_at, unread, view_in, wants}
@@ -35,14 +36,22 @@ use Rattle.mount_laws.proofs.Requests.Fsyncdir.{fsyncdir_sound}
 use Rattle.mount_laws.proofs.Requests.Getattr.{getattr_sound}
 use Rattle.mount_laws.proofs.Requests.Init.{init_sound}
 use Rattle.mount_laws.proofs.Requests.Lookup.{lookup_sound}
+use Rattle.mount_laws.proofs.Requests.Mkdir.{mkdir_sound}
+use Rattle.mount_laws.proofs.Requests.Mknod.{mknod_sound}
 use Rattle.mount_laws.proofs.Requests.Open.{open_sound}
 use Rattle.mount_laws.proofs.Requests.Opendir.{opendir_sound}
 use Rattle.mount_laws.proofs.Requests.Read.{read_sound}
 use Rattle.mount_laws.proofs.Requests.Readdir.{readdir_sound}
+use Rattle.mount_laws.proofs.Requests.Readlink.{readlink_sound}
 use Rattle.mount_laws.proofs.Requests.Release.{release_sound}
 use Rattle.mount_laws.proofs.Requests.Releasedir.{releasedir_sound}
+use Rattle.mount_laws.proofs.Requests.Rename.{rename_sound}
+use Rattle.mount_laws.proofs.Requests.Rename2.{rename2_sound}
+use Rattle.mount_laws.proofs.Requests.Rmdir.{rmdir_sound}
 use Rattle.mount_laws.proofs.Requests.Setattr.{setattr_sound}
 use Rattle.mount_laws.proofs.Requests.Statfs.{destroy_sound, statfs_sound}
+use Rattle.mount_laws.proofs.Requests.Symlink.{symlink_sound}
+use Rattle.mount_laws.proofs.Requests.Unlink.{unlink_sound}
 use Rattle.mount_laws.proofs.Requests.Unserved.{unserved_sound}
 use Rattle.mount_laws.proofs.Requests.Write.{write_sound}
 use Rattle.mount_laws.proofs.Sights.{view_stays}
@@ -57,9 +66,6 @@ unread-other opcode = by (is_among silent_opcodes opcode) (is_among served_opcod
     by true served e = cc
     by false true e = errors_differ (λ same. absurd (omega (arith, same))) e
     by false false e = errors_differ (λ same. absurd (omega (arith, same))) e
-
-not_served : Some enosys ≢ Some enomem
-not_served e = errors_differ (λ same. absurd (omega (arith, same))) e
 
 pub sound : (request : Request) → IsSound (rules_of request) (back_by request) (most_asked request)
 sound (Lookup node name) = lookup_sound node name
@@ -81,9 +87,16 @@ sound (Releasedir node fh) = releasedir_sound node fh
 sound (Fsyncdir node fh) = fsyncdir_sound node fh
 sound (Create node name) = create_sound node name
 sound Destroy = destroy_sound
+sound (Readlink node) = readlink_sound node
+sound (Symlink node name target) = symlink_sound node name target
+sound (Mknod node mode name) = mknod_sound node mode name
+sound (Mkdir node name) = mkdir_sound node name
+sound (Unlink node name) = unlink_sound node name
+sound (Rmdir node name) = rmdir_sound node name
+sound (Rename node newdir name newname) = rename_sound node (record { name = name; newdir = newdir; newname = newname })
+sound (Rename2 node newdir flags name newname) = rename2_sound node flags (record { name = name; newdir = newdir; newname = newname })
 sound Interrupt = unserved_sound None no_error
 sound (Unknown opcode) = unserved_sound (unread opcode) (unread-other opcode)
-sound _ = unserved_sound (Some enosys) not_served
 
 -- ---- the dispatcher
 -- a request goes on where it has an effect and nothing refuses it

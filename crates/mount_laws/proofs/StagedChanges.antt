@@ -14,7 +14,8 @@ use Rattle.claim_spec.specs.declared.claim.ClaimKey.{ClaimKey}
 use Rattle.claim_spec.specs.declared.claim.ClaimKey.TheVariants as key
 use Rattle.fuse_requests.specs.declared.request.Forgotten.{Forgotten}
 use Rattle.fuse_requests.specs.declared.request.Request.{Request}
-use Rattle.fuse_requests.specs.declared.request.Request.TheVariants.{BatchForget, Create, Flush, Forget, Fsync, Init, Opendir, Opening, Release, Releasedir, Setattr, Write}
+use Rattle.fuse_requests.specs.declared.request.Request.TheVariants.{BatchForget, Create, Flush, Forget, Fsync, Init, Mkdir, Mknod, Opendir, Opening}
+use Rattle.fuse_requests.specs.declared.request.Request.TheVariants.{Release, Releasedir, Rename, Rename2, Rmdir, Setattr, Symlink, Unlink, Write}
 use Rattle.inode_spec.proofs.Cases.{on_found, on_test}
 use Rattle.inode_spec.specs.Inodes.{Nodes, forgotten, is_live, made_current, with_file}
 use Rattle.mount_model.specs.Observing.{Observed}
@@ -37,20 +38,28 @@ use Rattle.mount_rules.specs.Requests.Init as init
 use Rattle.mount_rules.specs.Requests.Open as open_file
 use Rattle.mount_rules.specs.Requests.Opendir as opendir
 use Rattle.mount_rules.specs.Requests.Release as release
+use Rattle.mount_rules.specs.Requests.Rename as rename
+use Rattle.mount_rules.specs.Requests.Rmdir as rmdir
 use Rattle.mount_rules.specs.Requests.Setattr as setattr
+use Rattle.mount_rules.specs.Requests.Unlink as unlink
 use Rattle.mount_rules.specs.Requests.Write as write
 use Rattle.mount_rules.specs.Rules.{AtTake, Taken, at_file, at_open_file}
 use Rattle.mount_rules.specs.Showing.{file_shown}
 use Rattle.mount_rules.specs.Standing as standing
-use Rattle.mount_rules.specs.View.{Sight, sight_at, sight_of, view_of}
+use Rattle.mount_rules.specs.View.{Sight, View, sight_at, sight_of, view_of}
 use Rattle.object_names.specs.declared.shown.DirItem.{DirItem}
 use Rattle.staging_spec.specs.Overlays.{held_of}
 use Rattle.staging_spec.specs.StagedFiles.{StagedContent, StagedFiles, fits}
 use Rattle.staging_spec.specs.Staging.{resized, written}
 use Rattle.mount_laws.proofs.Guarding.{SeesOpenFile, on_open_file-none}
 use Rattle.mount_laws.proofs.Keeping.{no_Some, same_Some}
+use Rattle.mount_laws.proofs.Removing.{removed_staged}
 use Rattle.mount_laws.proofs.Requests.BatchForget.{nodes_stay}
+use Rattle.mount_laws.proofs.Requests.Mkdir.{mkdir_staged}
+use Rattle.mount_laws.proofs.Requests.Mknod.{mknod_staged}
 use Rattle.mount_laws.proofs.Requests.Release.{released_stay}
+use Rattle.mount_laws.proofs.Requests.Rename.{on_moved, renamed_stay}
+use Rattle.mount_laws.proofs.Requests.Rmdir.{rmdir_staged}
 use Rattle.mount_laws.proofs.Requests.Setattr.{on_changed}
 use Rattle.mount_laws.proofs.Requests.Write.{on_written}
 use Rattle.mount_laws.proofs.Sources.{NodesStay, NodesStay-forgotten, NodesStay-same, WasThere}
@@ -83,6 +92,10 @@ pub record IsCarried (mount : MountModel) (number : ℕ) (staged : StagedContent
 
 abbrev pub IsPut : AtTake → MountModel → ℕ → StagedContent → Type 0
 IsPut at mount number staged = IsWritten at mount number staged ⊎ (IsResized at mount number staged ⊎ IsCarried mount number staged)
+
+-- what a RENAME asks for
+abbrev renamed : List ℕ → ℕ → List ℕ → rename.Names
+renamed name newdir newname = record { name = name; newdir = newdir; newname = newname }
 
 module _ (P : StagedFiles → Type 0) (at : AtTake) (mount : MountModel) (seen : List Observed)
     (same : P mount.staged)
@@ -196,6 +209,12 @@ module _ (P : StagedFiles → Type 0) (at : AtTake) (mount : MountModel) (seen :
   of_init : (major minor : ℕ) → P (init.after major minor mount).staged
   of_init major minor = on_test (λ (m : MountModel). P m.staged) (init.is_taken major minor) (record mount { negotiated = true }) mount (λ taken. same) (λ other. same)
 
+  stays : (files : StagedFiles) → files ≡ mount.staged → P files
+  stays files is = subst P (sym is) same
+
+  of_rename : (names : rename.Names) (view : View) → P (rename.mount_after names view mount (rename.came names view (answers_of seen))).staged
+  of_rename names view = on_moved names view mount (λ (m : MountModel). P m.staged) same same (rename.came names view (answers_of seen))
+
   -- what holds of what is staged, and holds where staged content ends or is put in place, holds after the request
   pub of_request : (request : Request) → (rules_of request).refusal (view_in mount request) ≡ None
       → P ((rules_of request).after (taken_at at mount request) mount seen).staged
@@ -207,6 +226,13 @@ module _ (P : StagedFiles → Type 0) (at : AtTake) (mount : MountModel) (seen :
   of_request (BatchForget pairs) free = of_pairs pairs.items mount same
   of_request (Release node fh) free = of_left mount.staged node (release.left_by (fin.remove mount.handles fh) node mount.table) same
   of_request (Create node name) free = of_create _ _ (making.made (answers_of seen))
+  of_request (Mkdir node name) free = stays _ (mkdir_staged mount _ (making.made (answers_of seen)))
+  of_request (Mknod node mode name) free = stays _ (mknod_staged mount _ _ (making.made (answers_of seen)))
+  of_request (Symlink node name target) free = stays _ (mknod_staged mount _ _ (making.made (answers_of seen)))
+  of_request (Unlink node name) free = stays _ (removed_staged mount _ (unlink.removed (answers_of seen)))
+  of_request (Rmdir node name) free = stays _ (rmdir_staged mount _ (rmdir.came_of _ (answers_of seen)))
+  of_request (Rename node newdir name newname) free = of_rename (renamed name newdir newname) (view_in mount (Rename node newdir name newname))
+  of_request (Rename2 node newdir flags name newname) free = of_rename (renamed name newdir newname) (view_in mount (Rename2 node newdir flags name newname))
   of_request (Opening node flags) free = of_open node _ _
   of_request (Opendir node) free = of_opendir node _
   of_request (Init major minor readahead flags) free = of_init major minor
@@ -358,6 +384,12 @@ module _ (at : AtTake) (mount : MountModel) (seen : List Observed) where
   staged_show_the_same (BatchForget pairs) is keeps = same_nodes (BatchForget pairs) (nodes_stay pairs.items mount)
   staged_show_the_same (Release node fh) is keeps = same_nodes (Release node fh) (released_stay mount node fh)
   staged_show_the_same (Releasedir node fh) is keeps = same_nodes (Releasedir node fh) (NodesStay-same mount.table)
+  staged_show_the_same (Rename node newdir name newname) is keeps =
+      let view = view_in mount (Rename node newdir name newname) in
+      same_nodes (Rename node newdir name newname) (renamed_stay (renamed name newdir newname) view mount (rename.came (renamed name newdir newname) view (answers_of seen)))
+  staged_show_the_same (Rename2 node newdir flags name newname) is keeps =
+      let view = view_in mount (Rename2 node newdir flags name newname) in
+      same_nodes (Rename2 node newdir flags name newname) (renamed_stay (renamed name newdir newname) view mount (rename.came (renamed name newdir newname) view (answers_of seen)))
   staged_show_the_same request is keeps =
       λ number staged node file found. unowned ((rules_of request).claims (view_in mount request)) mount (left_by request) is keeps number
       (owns_none ((rules_of request).claims (view_in mount request)) number refl) staged found node file

@@ -61,11 +61,11 @@ observes_none plan none store [] observed = refl
 observes_none plan none store (o ∷ more) observed = absurd (let never : None ≡ Some o.op = sym none ∙ observed.0.asked in cc)
 
 -- ---- what is found in a bucket
-same_generation : (generation : ℕ) → (generation == generation) ≡ true
+pub same_generation : (generation : ℕ) → (generation == generation) ≡ true
 same_generation generation = (Decides-eqb generation generation).1 refl
 
 -- the live object of a name has its own generation
-object_of-found : (b : BucketState) (name : List ℕ) (o : Object) → object_at b name ≡ Some o → object_of b name o.meta.generation ≡ Some o
+pub object_of-found : (b : BucketState) (name : List ℕ) (o : Object) → object_at b name ≡ Some o → object_of b name o.meta.generation ≡ Some o
 object_of-found b name o there =
     ap (option_and_then (λ (x : Object). if x.meta.generation == o.meta.generation then Some x else None)) there
     ∙ ap (λ same. if same then Some o else None) (same_generation o.meta.generation)
@@ -132,7 +132,7 @@ module _ (start : BucketState) (log : List LogEvent) (is : IsBucket start) (allo
           ∙ lookup-made name (new_object b name content pairs stamp) b.entries)
       by false is_so = tt
 
-  told : (op : Operation) (b : BucketState) (first then_ : ℕ) → state_at start log first ≡ b → state_at start log then_ ≡ state_after op b
+  pub told : (op : Operation) (b : BucketState) (first then_ : ℕ) → state_at start log first ≡ b → state_at start log then_ ≡ state_after op b
       → Tells (HasContent start log) (Some op) (answer_to op b)
   told (stat name) b first then_ before_ after_ = told_stat b first name before_
   told (insert name content pairs only stamp) b first then_ before_ after_ = told_insert b then_ name content pairs only stamp after_

@@ -5,7 +5,7 @@ use Rattle.std.proofs.lemmas.Bool.Decides.{Decides-eqb, nat_tests}
 use Rattle.std.specs.Prelude.{if◌then◌else◌, ◌||◌}
 use Rattle.std.specs.FinMap as fin
 use Rattle.std.specs.Option.{option_map_or}
-use Rattle.inode_spec.specs.Inodes.{IsLiveUnder, forgotten, forgotten_at, granted, is_live, let_go, made_current, with_inode, without_current}
+use Rattle.inode_spec.specs.Inodes.{IsLiveUnder, detached, forgotten, forgotten_at, granted, is_live, let_go, made_current, with_inode, without_current}
 use Rattle.mount_rules.specs.Mount.{File, IsKeptOf, IsNameOf, Node, NodeTable}
 use Rattle.object_names.specs.declared.shown.NodeKind.{NodeKind}
 use Rattle.object_names.specs.declared.shown.NodeKind.TheVariants.{Dir, File as RegularFile, Symlink}
@@ -135,6 +135,18 @@ module _ (table : NodeTable) (is : IsNodeTable table) where
           let c = is.current q n was in
           let low = is.nodes n c.inode c.there in
           record { inode = c.inode; there = number_put_other table.nodes table.next new n (λ same. absurd (omega (arith, low, same))) ∙ c.there; named = c.named; live = c.live }
+
+  -- a name has no current node any more
+  pub TableLater-detached : (name : List ℕ) → TableLater table (detached table name)
+  TableLater-detached name = record {
+    is = record { first = is.first; nodes = is.nodes; names = is.names; files = is.files; current = current };
+    rises = omega arith;
+  }
+    where
+      current : (q : List ℕ) (n : ℕ) → fin.get (fin.remove table.current name) q ≡ Some n → IsLiveUnder (detached table name) q n
+      current q n found =
+          let c = is.current q n (name_taken table.current name n q found).1 in
+          record { inode = c.inode; there = c.there; named = c.named; live = c.live }
 
   -- look-ups of a node other than the root are given back
   pub TableLater-forgotten : (number count : ℕ) (held : Bool) (node : Node) → number ≢ 1 → fin.get table.nodes number ≡ Some node

@@ -2,3 +2,5 @@
 pub mod Flushes
 pub mod Listings
 pub mod Parents
+pub mod Removals
+pub mod Renames

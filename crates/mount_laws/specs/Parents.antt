@@ -4,7 +4,7 @@ use Rattle.claim_spec.specs.Conflicts.{AreApart, IsClaimed}
 use Rattle.claim_spec.specs.declared.claim.Claim.{Claim}
 use Rattle.claim_spec.specs.declared.claim.ClaimKey.TheVariants as key
 use Rattle.fuse_requests.specs.declared.request.Request.{Request}
-use Rattle.fuse_requests.specs.declared.request.Request.TheVariants.{Create, Lookup, Opendir}
+use Rattle.fuse_requests.specs.declared.request.Request.TheVariants.{Create, Lookup, Mkdir, Mknod, Opendir, Rmdir, Symlink, Unlink}
 use Rattle.mount_model.specs.Observing.{Observed}
 use Rattle.mount_rules.specs.Rules.{AtTake}
 use Rattle.mount_rules.specs.Claiming.{shares_node}
@@ -12,10 +12,15 @@ use Rattle.mount_rules.specs.Dispatch.{claims, goes_on, mount_after, plan, view_
 use Rattle.mount_rules.specs.Mount.{IsMount, MountModel}
 use Rattle.mount_rules.specs.Plans.{done}
 
--- the directory in which a request names something, or which it lists
+-- the one directory in which a request names something, or which it lists; a RENAME has two, and sees more than these
 abbrev pub parent_of : Request → Option ℕ
 parent_of (Lookup node name) = Some node
 parent_of (Create node name) = Some node
+parent_of (Mknod node mode name) = Some node
+parent_of (Symlink node name target) = Some node
+parent_of (Mkdir node name) = Some node
+parent_of (Unlink node name) = Some node
+parent_of (Rmdir node name) = Some node
 parent_of (Opendir node) = Some node
 parent_of _ = None
 

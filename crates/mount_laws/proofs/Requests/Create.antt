@@ -1,48 +1,36 @@
 -- The rules of CREATE are sound.
-use Rattle.std.proofs.Common.{◌≡◌, ◌≢◌, ◌+◌, ◌-◌, ℕ, true, List, [], ◌∷◌, Some, None, refl, sym, ap, subst, arith, inl, inr, ◌≤◌, length}
-use Rattle.std.specs.List.{AllByRecursion}
+use Rattle.std.proofs.Common.{◌≡◌, ◌+◌, ◌-◌, ℕ, true, List, [], Some, None, refl, arith, inl, inr}
 use Rattle.bucket_api.specs.Metadata.{Metadata}
-use Rattle.bucket_api.specs.declared.answers.Answer.{Answer}
-use Rattle.bucket_api.specs.declared.answers.Answer.TheVariants as answers
-use Rattle.bucket_api.specs.Operation.{Operation, insert}
 use Rattle.claim_spec.specs.Conflicts.{IsClaimed}
 use Rattle.claim_spec.specs.declared.claim.Claim.{Claim}
 use Rattle.claim_spec.specs.declared.claim.ClaimKey.TheVariants as key
+use Rattle.fuse_replies.specs.Errno.{eexist, eio, enomem}
 use Rattle.fuse_replies.specs.declared.reply.Reply.TheVariants.{Error}
 use Rattle.inode_spec.specs.Inodes.{granted, lookups_of}
-use Rattle.mount_model.specs.Observing.{Observed}
 use Rattle.mount_model.specs.declared.config.Config.{Config}
 use Rattle.object_names.specs.Paths.{IsPath}
-use Rattle.mount_rules.specs.Claiming.{owns_name, shares_node}
-use Rattle.fuse_replies.specs.Errno.{eexist, eio, enomem}
 use Rattle.mount_rules.specs.Guards.{part_refusal}
-use Rattle.mount_rules.specs.Laws.{GivesLater, IsCovered, Keeps, Planned, given}
-use Rattle.mount_rules.specs.Mount.{IsMount, MountModel}
-use Rattle.mount_rules.specs.Plans.{Allows, IsHarmless, answers_of, done}
-use Rattle.mount_rules.specs.Requests.Create as create
+use Rattle.mount_rules.specs.Laws.{GivesLater, Keeps, given}
 use Rattle.mount_rules.specs.Making as making
 use Rattle.mount_rules.specs.Making.{Made, new, exists, fault}
-use Rattle.mount_rules.specs.Showing.{file_shown, new_node}
-use Rattle.mount_laws.proofs.Children.{HasPath-none, IsKeptOf-object, IsNameOf-object}
-use Rattle.mount_laws.proofs.Counting.{count_of, counts_more}
+use Rattle.mount_rules.specs.Mount.{IsMount, MountModel}
+use Rattle.mount_rules.specs.Plans.{answers_of}
+use Rattle.mount_rules.specs.Requests.Create as create
+use Rattle.mount_rules.specs.Showing.{new_node}
+use Rattle.mount_laws.proofs.Children.{HasPath-none}
 use Rattle.mount_laws.proofs.Guarding.{in_directory-memory, part_refusal-memory}
 use Rattle.mount_laws.proofs.Keeping.{TableKeeps-granted, no_Some}
 use Rattle.mount_laws.proofs.Leaving.{Keeps-opened, Keeps-same}
-use Rattle.mount_laws.proofs.Mounts.{GivesLater-opened, GivesLater-same, GivesLater-table, GivesLater-then, IsNodeTable-of}
+use Rattle.mount_laws.proofs.Making.{GivesLater-made, counts_made, making_asks_one, making_covers, making_harmless, making_told}
+use Rattle.mount_laws.proofs.Mounts.{GivesLater-opened, GivesLater-same, GivesLater-then}
 use Rattle.mount_laws.proofs.Sights.{LooksClaimed-node}
 use Rattle.mount_laws.proofs.Sound.{IsSound}
 use Rattle.mount_laws.proofs.Sources.{NodesFrom, NodesFrom-same, NodesFrom-told}
-use Rattle.mount_laws.proofs.Staying.{FilesStay-new}
-use Rattle.mount_laws.proofs.Tables.{TableLater-granted, next_unused}
-use Rattle.mount_laws.proofs.Telling.{Tells, TellsAlong}
 
 module _ (mount : MountModel) (is : IsMount mount) (path : List ℕ) (moment : ℕ) where
   later : IsPath path → (came : Made) → GivesLater mount (create.mount_after mount path moment came)
   later path_is (new meta) =
-      let nodes = IsNodeTable-of mount is in
-      let table = GivesLater-table mount is _ (TableLater-granted mount.table nodes (new_node path meta moment) (IsNameOf-object meta path path_is)
-      (IsKeptOf-object meta (file_shown meta moment)) (omega arith)) (FilesStay-new mount.table.nodes mount.table.next (new_node path meta moment) (next_unused mount.table nodes)) in
-      GivesLater-then table (GivesLater-opened _ table.is (record { node = mount.table.next; items = None }))
+      let table = GivesLater-made mount is path meta moment path_is in GivesLater-then table (GivesLater-opened _ table.is (record { node = mount.table.next; items = None }))
   later path_is exists = GivesLater-same mount is
   later path_is fault = GivesLater-same mount is
 
@@ -61,10 +49,7 @@ module _ (mount : MountModel) (is : IsMount mount) (path : List ℕ) (moment : �
 
   counts : (config : Config) (number : ℕ) (came : Made)
       → lookups_of (create.mount_after mount path moment came).table number ≡ (lookups_of mount.table number + given (create.reply_to config mount path moment came) number) - 0
-  counts config number (new meta) = counts_more mount.table number mount.table.next (new_node path meta moment) (ap (λ n. n + 1) (sym none))
-    where
-      none : lookups_of mount.table mount.table.next ≡ 0
-      none = ap count_of (next_unused mount.table (IsNodeTable-of mount is))
+  counts config number (new meta) = counts_made mount is path meta moment number
   counts config number exists = omega arith
   counts config number fault = omega arith
 
@@ -83,40 +68,14 @@ keeps_staged mount path moment (new meta) = refl
 keeps_staged mount path moment exists = refl
 keeps_staged mount path moment fault = refl
 
--- the one operation is the insert of the path
-covers : (path : List ℕ) (second : ℕ) (answers : List Answer) (node : ℕ) (op : Operation) → Allows (making.plan path [] second answers) op
-    → IsCovered (shares_node node ∷ owns_name path ∷ []) op
-covers path second [] node op allows = subst (IsCovered (shares_node node ∷ owns_name path ∷ [])) (sym allows) (inr (inl (refl, refl)))
-covers path second (a ∷ more) node op allows = absurd allows
-
--- once the insert is made, nothing is asked
-harmless : (path : List ℕ) (second : ℕ) (seen : List Observed) → making.plan path [] second (answers_of seen) ≢ done → AllByRecursion (λ (o : Observed). IsHarmless o.op) seen
-harmless path second [] asks = tt
-harmless path second (o ∷ more) asks = absurd (asks refl)
-
-asks_one : (path : List ℕ) (second : ℕ) (seen : List Observed) → Planned (making.plan path [] second) seen → length seen ≤ 1
-asks_one path second [] planned = omega arith
-asks_one path second (o ∷ []) planned = omega arith
-asks_one path second (o ∷ p ∷ more) planned = absurd planned.1.0
-
--- a new object is what the bucket tells of it
-makes_shown : (Shown : List ℕ → ℕ → ℕ → Type 0) (path : List ℕ) (second : ℕ) (seen : List Observed) (meta : Metadata)
-    → TellsAlong Shown (making.plan path [] second) seen → making.made (answers_of seen) ≡ new meta → Shown path meta.generation meta.size
-makes_shown Shown path second [] meta tells e = absurd cc
-makes_shown Shown path second (o ∷ more) meta tells e = by o.answer tells.0 e
-  where
-    by : (answer : Answer) → Tells Shown (Some (insert path [] [] (Some 0) second)) answer → making.made_by answer ≡ new meta → Shown path meta.generation meta.size
-    by (answers.Meta told) shown e = let same : told ≡ meta = cc in subst (λ (m : Metadata). Shown path m.generation m.size) same shown
-    by _ shown e = absurd cc
-
 pub create_sound : (node : ℕ) (name : List ℕ) → IsSound (create.rules node name) (λ number. 0) (Some 1)
 create_sound node name = record {
   later = λ at mount seen goes. later mount goes.is _ _ (HasPath-none mount node name goes.is goes.free).is_path (making.made (answers_of seen));
   leaves = λ at mount seen goes. leaves mount goes.is _ _ _ (inr (inl refl)) (making.made (answers_of seen));
   sees = λ at mount goes asks. let has = HasPath-none mount node name goes.is goes.free in LooksClaimed-node _ mount node has.sight has.seen (inl refl);
-  covers = λ taken answers op allows. covers (create.path_of name taken.view) taken.at.second answers node op allows;
-  harmless = λ taken seen planned fits asks. harmless (create.path_of name taken.view) taken.at.second seen asks;
-  bounded = λ taken seen n is planned. let one : 1 ≡ n = cc in subst (λ m. length seen ≤ m) one (asks_one (create.path_of name taken.view) taken.at.second seen planned);
+  covers = λ taken answers op allows. making_covers (create.path_of name taken.view) [] taken.at.second answers node op allows;
+  harmless = λ taken seen planned fits asks. making_harmless (create.path_of name taken.view) [] taken.at.second seen asks;
+  bounded = λ taken seen n is planned. making_asks_one (create.path_of name taken.view) [] taken.at.second seen n is planned;
   reads = λ taken wanted wants_it. absurd (no_Some wants_it);
   of_files = λ mount wanted is wants_it. absurd (no_Some wants_it);
   agrees = λ taken mount seen agreed. agrees mount _ _ agreed (making.made (answers_of seen));
@@ -124,5 +83,5 @@ create_sound node name = record {
   keeps_staged = λ at mount seen errno free error. keeps_staged mount _ _ (making.made (answers_of seen));
   answers = λ taken mount seen. answered taken.at.config mount (create.path_of name taken.view) _ (making.made (answers_of seen));
   counts = λ at mount seen number other goes. counts mount goes.is _ _ at.config number (making.made (answers_of seen));
-  nodes = λ Shown at mount seen goes tells. nodes mount goes.is _ _ Shown (making.made (answers_of seen)) (λ meta e. makes_shown Shown _ at.second seen meta tells e);
+  nodes = λ Shown at mount seen goes tells. nodes mount goes.is _ _ Shown (making.made (answers_of seen)) (λ meta e. making_told _ [] at.second Shown seen meta tells e);
 }

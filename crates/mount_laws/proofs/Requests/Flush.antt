@@ -193,7 +193,7 @@ LooksClaimed-flush mount node fh free claimed sight seen owned named =
       kept = λ n is. let same : node ≡ n = same_Some is in
           (sight, ap (sight_at mount.table) (sym same) ∙ seen, subst (λ k. IsOwned claimed (key.Node k)) same owned, named);
       staged = looks.staged;
-      old = refl;
+      old = λ part directory is. absurd (no_Some is);
       listed = refl;
     }
 

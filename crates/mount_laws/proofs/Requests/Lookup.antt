@@ -39,7 +39,7 @@ use Rattle.mount_laws.proofs.Tables.{IsNodeTable, TableLater, TableLater-same}
 use Rattle.mount_laws.proofs.Telling.{Tells, TellsAlong}
 
 -- the operation is the probe or the stat of the path
-asks_path : (implicit : Bool) (path : List ℕ) (suffixed : Bool) (answers : List Answer) (claimed : List Claim) (op : Operation)
+pub asks_path : (implicit : Bool) (path : List ℕ) (suffixed : Bool) (answers : List Answer) (claimed : List Claim) (op : Operation)
     → IsClaimed claimed (key.Name (dir_prefix_of path)) → IsClaimed claimed (key.Name path) → Allows (lookup.plan implicit path suffixed answers) op → IsCovered claimed op
 asks_path implicit path suffixed [] claimed op dir name allows = subst (IsCovered claimed) (sym allows) (by implicit)
   where

@@ -3,6 +3,7 @@ use Rattle.mount_laws.proofs.RequestLaws.{stays_mount, leaves_others, claims_pro
 use Rattle.mount_laws.proofs.FlushLaws.{flushes_own, flushes_protect}
 use Rattle.mount_laws.proofs.Refusals.{full_is_refused, refused_keeps_staged}
 use Rattle.mount_laws.proofs.ParentLaws.{parents_are_claimed, parents_protect}
+use Rattle.mount_laws.proofs.RenameLaws.{renames_protect}
 use Rattle.mount_laws.proofs.laws.request_laws.Goals as goal
 
 pub returns-clause-mounts : goal.returns-clause-mounts
@@ -25,6 +26,9 @@ returns-clause-flushes c = flushes_protect
 
 pub returns-clause-owned : goal.returns-clause-owned
 returns-clause-owned c = flushes_own
+
+pub returns-clause-renames : goal.returns-clause-renames
+returns-clause-renames c = renames_protect
 
 pub returns-clause-covers : goal.returns-clause-covers
 returns-clause-covers c = claims_cover
