@@ -1,4 +1,5 @@
 -- The lemmas that the proofs of `plan_names` cite.
 mod LastLemmas
-mod NameLemmas
+pub mod NameLemmas
 mod PageLemmas
+mod PlaceholderLemmas

@@ -4,7 +4,7 @@ ghost use Rattle.mount_model.specs.Observing.{next_step};
 ghost use Rattle.mount_rules.specs.Plans.{done};
 ghost use Rattle.plan_names.specs.Errands.{plan_of, errno_of, next_of, IsErrand, Asked, MayMake};
 
-use crate::{listing, lookup, making};
+use crate::{listing, lookup, making, removing, renaming};
 use bucket_api::{Answer, Pair};
 use io_ports::{NoMemory, Row, Text};
 use mount_model::Next;
@@ -28,6 +28,27 @@ pub enum NameErrand {
         name: Text,
         /// Its metadata, by rising keys.
         pairs: Row<Pair>,
+    },
+    /// Removes the object of a path.
+    Unlink {
+        /// The path, without the suffix.
+        path: Text,
+    },
+    /// Removes the placeholder of an empty directory.
+    Rmdir {
+        /// The path of the directory.
+        path: Text,
+    },
+    /// Moves an object to another name: it is looked up, copied, and deleted as it was seen.
+    Rename {
+        /// The old path, without the suffix.
+        from: Text,
+        /// The new path, another one.
+        to: Text,
+        /// Whether the old name had the suffix.
+        suffix: bool,
+        /// Whether directories are implicit.
+        implicit: bool,
     },
     /// Lists a directory, page after page.
     Opendir {
@@ -59,17 +80,29 @@ pub fn next_op(
             implicit,
         } => lookup::next_op(alloc, path, *suffix, *implicit, answers),
         NameErrand::Make { name, pairs } => making::next_op(alloc, name, pairs, second, answers),
+        NameErrand::Unlink { path } => removing::next_of_unlink(alloc, path, answers),
+        NameErrand::Rmdir { path } => removing::next_of_rmdir(alloc, path, answers),
+        NameErrand::Rename {
+            from,
+            to,
+            suffix,
+            implicit,
+        } => renaming::next_op(alloc, from, to, *suffix, *implicit, second, answers),
         NameErrand::Opendir { prefix, page } => listing::next_op(alloc, prefix, *page, answers),
     }
 }
 
 /// The error that the errand ends in once it was answered so, 0 where it ends well.
 pub fn errno(errand: &NameErrand, answers: &[Answer]) -> u32
+    requires { IsErrand errand.now }
     ensures { result ≡ errno_of errand.now answers.now }
 {
     match errand {
         NameErrand::Lookup { .. } => lookup::errno(answers),
         NameErrand::Make { .. } => making::errno(answers),
+        NameErrand::Unlink { .. } => removing::errno_of_unlink(answers),
+        NameErrand::Rmdir { path } => removing::errno_of_rmdir(path, answers),
+        NameErrand::Rename { .. } => renaming::errno(answers),
         NameErrand::Opendir { .. } => listing::errno(answers),
     }
 }

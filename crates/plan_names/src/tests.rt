@@ -1,13 +1,17 @@
 //! The steps of each errand by hand, what each ends in, and a fault at each step.
-ghost use Rattle.std.specs.Prelude.{◌≡◌, ℕ, List, [], Some, None, IfOk};
+ghost use Rattle.std.specs.Prelude.{◌≡◌, ℕ, false, List, [], Some, None, IfOk};
 ghost use Rattle.mount_rules.specs.Making as making;
 ghost use Rattle.mount_rules.specs.Requests.Lookup as lookup;
 ghost use Rattle.mount_rules.specs.Requests.Opendir as opendir;
+ghost use Rattle.mount_rules.specs.Requests.Rename as rename;
+ghost use Rattle.mount_rules.specs.Requests.Rmdir as rmdir;
+ghost use Rattle.mount_rules.specs.Requests.Unlink as unlink;
 ghost use Rattle.object_names.specs.Paths.{IsPath, IsPrefix};
 ghost use Rattle.plan_names.specs.Errands.{plan_of, Asked, IsErrand};
 
 use crate::{
-    Found, Made, NameErrand, errno, last_moment, next_op, outcome_of_insert, outcome_of_lookup,
+    Emptied, Found, Made, Moved, NameErrand, Removed, errno, last_moment, next_op,
+    outcome_of_insert, outcome_of_lookup, outcome_of_rename, outcome_of_rmdir, outcome_of_unlink,
 };
 use bucket_api::{Answer, Meta, Op, Page};
 use io_ports::{NoMemory, Row, Text};
@@ -34,6 +38,13 @@ fn words(alloc: Global, op: &Op) -> Result<String, NoMemory> {
             stamp,
             ..
         } => inserted(alloc, name, content.as_slice().len(), *only, *stamp),
+        Op::Delete { name, only } => deleted(alloc, name, *only),
+        Op::Copy {
+            from,
+            generation,
+            to,
+            stamp,
+        } => copied(alloc, from, *generation, to, *stamp),
         _ => Ok(String::from_str(alloc, "another")?),
     }
 }
@@ -66,6 +77,26 @@ fn inserted(
     let only = only.unwrap_or(99);
     let line = format!(in alloc; "insert {} {size} only {only} at {stamp}", name.as_str())?;
     Ok(line)
+}
+
+/// A delete in words.
+fn deleted(alloc: Global, name: &Text, only: Option<u64>) -> Result<String, NoMemory> {
+    match only {
+        Some(generation) => Ok(format!(in alloc; "delete {} only {generation}", name.as_str())?),
+        None => Ok(format!(in alloc; "delete {}", name.as_str())?),
+    }
+}
+
+/// A copy in words.
+fn copied(
+    alloc: Global,
+    from: &Text,
+    generation: u64,
+    to: &Text,
+    stamp: u64,
+) -> Result<String, NoMemory> {
+    let (from, to) = (from.as_str(), to.as_str());
+    Ok(format!(in alloc; "copy {from} {generation} to {to} at {stamp}")?)
 }
 
 /// What an errand asks next, at the second 7, or the error that it ends in.
@@ -147,10 +178,44 @@ fn lists(alloc: Global, told: &[Answer]) -> Result<String, NoMemory>
     asks(alloc, &errand, told)
 }
 
+/// What removing the object of `a/b` asks after these answers.
+fn unlinks(alloc: Global, told: &[Answer]) -> Result<String, NoMemory>
+    requires { (path : List ℕ) → Asked (unlink.plan path) told.now }
+{
+    let path = path(alloc)?;
+    asks(alloc, &NameErrand::Unlink { path }, told)
+}
+
+/// What removing the directory `a/b` asks after these answers.
+fn empties(alloc: Global, told: &[Answer]) -> Result<String, NoMemory>
+    requires { (prefix : List ℕ) → Asked (rmdir.plan prefix) told.now }
+{
+    let path = path(alloc)?;
+    asks(alloc, &NameErrand::Rmdir { path }, told)
+}
+
+/// What moving `a/b` to `c` asks after these answers.
+fn moves(alloc: Global, suffix: bool, told: &[Answer]) -> Result<String, NoMemory>
+    requires { (from to : List ℕ) → Asked (rename.moving_plan false from to suffix 7) told.now }
+{
+    let errand = NameErrand::Rename {
+        from: path(alloc)?,
+        to: part_of(alloc, "", "c")?,
+        suffix,
+        implicit: false,
+    };
+    asks(alloc, &errand, told)
+}
+
 /// What a bucket tells of an object of no bytes.
 fn meta(alloc: Global) -> Result<Meta, NoMemory> {
+    meta_of(alloc, "a/b")
+}
+
+/// What a bucket tells of an object of no bytes that is named so.
+fn meta_of(alloc: Global, name: &str) -> Result<Meta, NoMemory> {
     Ok(Meta {
-        name: Text::of(alloc, "a/b")?,
+        name: Text::of(alloc, name)?,
         generation: 6,
         metageneration: 1,
         size: 0,
@@ -179,6 +244,20 @@ fn last_page(alloc: Global) -> Page
         prefixes: Row::new(alloc),
         next: None,
     }
+}
+
+/// A page of one object, behind which there is none.
+fn page_of(alloc: Global, name: &str) -> Result<Page, NoMemory>
+    ensures { IfOk result (λ page. page.next ≡ None) }
+{
+    let mut items = Row::new(alloc);
+    items.reserve(1)?;
+    items.push(meta_of(alloc, name)?);
+    Ok(Page {
+        items,
+        prefixes: Row::new(alloc),
+        next: None,
+    })
 }
 
 #[test]
@@ -273,6 +352,73 @@ fn ends_behind_the_last_page(rt: HostRuntime) -> Result<(), Fail> {
     Ok(())
 }
 
+#[test]
+fn deletes_the_object_of_a_path(rt: HostRuntime) -> Result<(), Fail> {
+    let line = unlinks(rt.alloc(), &[])?;
+    assert_eq!(rt; line.as_str(), "delete a/b");
+    let line = unlinks(rt.alloc(), &[Answer::Done])?;
+    assert_eq!(rt; line.as_str(), "end 0");
+    let line = unlinks(rt.alloc(), &[Answer::NotFound])?;
+    assert_eq!(rt; line.as_str(), "end 2");
+    let line = unlinks(rt.alloc(), &[Answer::Fault])?;
+    assert_eq!(rt; line.as_str(), "end 5");
+    Ok(())
+}
+
+#[test]
+fn removes_a_directory_that_is_empty(rt: HostRuntime) -> Result<(), Fail> {
+    let line = empties(rt.alloc(), &[])?;
+    assert_eq!(rt; line.as_str(), "list a/b/ flat 2 after nothing");
+    let own = Answer::Page(page_of(rt.alloc(), "a/b/")?);
+    let line = empties(rt.alloc(), &[own])?;
+    assert_eq!(rt; line.as_str(), "delete a/b/");
+    let filled = Answer::Page(page_of(rt.alloc(), "a/b/c")?);
+    let line = empties(rt.alloc(), &[filled])?;
+    assert_eq!(rt; line.as_str(), "end 39");
+    let none = Answer::Page(last_page(rt.alloc()));
+    let line = empties(rt.alloc(), &[none])?;
+    assert_eq!(rt; line.as_str(), "end 2");
+    let line = empties(rt.alloc(), &[Answer::Fault])?;
+    assert_eq!(rt; line.as_str(), "end 5");
+    Ok(())
+}
+
+#[test]
+fn moves_the_generation_that_it_saw(rt: HostRuntime) -> Result<(), Fail> {
+    let line = moves(rt.alloc(), false, &[])?;
+    assert_eq!(rt; line.as_str(), "stat a/b/");
+    let line = moves(rt.alloc(), false, &[Answer::NotFound])?;
+    assert_eq!(rt; line.as_str(), "stat a/b");
+    let told = Answer::Meta(meta(rt.alloc())?);
+    let line = moves(rt.alloc(), true, &[Answer::Done, told])?;
+    assert_eq!(rt; line.as_str(), "copy a/b 6 to c at 7");
+    let (told, made) = (
+        Answer::Meta(meta(rt.alloc())?),
+        Answer::Meta(meta(rt.alloc())?),
+    );
+    let line = moves(rt.alloc(), false, &[Answer::NotFound, told, made])?;
+    assert_eq!(rt; line.as_str(), "delete a/b only 6");
+    Ok(())
+}
+
+#[test]
+fn ends_where_nothing_can_be_moved(rt: HostRuntime) -> Result<(), Fail> {
+    let line = moves(rt.alloc(), false, &[Answer::Done])?;
+    assert_eq!(rt; line.as_str(), "end 38");
+    let line = moves(rt.alloc(), true, &[Answer::NotFound])?;
+    assert_eq!(rt; line.as_str(), "end 2");
+    let line = moves(rt.alloc(), false, &[Answer::NotFound, Answer::NotFound])?;
+    assert_eq!(rt; line.as_str(), "end 2");
+    let told = Answer::Meta(meta(rt.alloc())?);
+    let line = moves(
+        rt.alloc(),
+        false,
+        &[Answer::NotFound, told, Answer::NotFound],
+    )?;
+    assert_eq!(rt; line.as_str(), "end 116");
+    Ok(())
+}
+
 /// What was observed, with these answers at the moments 4 and 9.
 fn seen(alloc: Global, first: Answer, second: Answer) -> Result<Row<Observation>, NoMemory> {
     let mut seen = Row::new(alloc);
@@ -319,5 +465,23 @@ fn tells_what_came_of_it(rt: HostRuntime) -> Result<(), Fail> {
     assert_eq!(rt; found(outcome_of_lookup(Row::new(rt.alloc()))), '!');
     let both = seen(rt.alloc(), Answer::Fault, Answer::Done)?;
     assert_eq!(rt; made(outcome_of_insert(both)), '!');
+    Ok(())
+}
+
+#[test]
+fn tells_what_was_removed_or_moved(rt: HostRuntime) -> Result<(), Fail> {
+    let both = seen(rt.alloc(), Answer::NotFound, Answer::Done)?;
+    let path = path(rt.alloc())?;
+    assert_eq!(rt; outcome_of_unlink(&both), Removed::Nothing);
+    assert_eq!(rt;
+        outcome_of_rmdir(path.as_str(), &both),
+        Emptied::Removed(Removed::Gone)
+    );
+    assert_eq!(rt; outcome_of_rename(&both), Moved::Fault);
+    let filled = Answer::Page(page_of(rt.alloc(), "a/b/c")?);
+    let mut listed = Row::new(rt.alloc());
+    listed.reserve(1)?;
+    listed.push(observed(rt.alloc(), 4, filled)?);
+    assert_eq!(rt; outcome_of_rmdir(path.as_str(), &listed), Emptied::NotEmpty);
     Ok(())
 }

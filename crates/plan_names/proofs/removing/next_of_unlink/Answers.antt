@@ -1,0 +1,8 @@
+-- A path names an object.
+use Rattle.std.proofs.Common.{sym, subst}
+use Rattle.bucket_api.specs.Names.{IsObjectName}
+use Rattle.plan_names.proofs.NameLemmas.{path_named}
+use Rattle.plan_names.proofs.removing.next_of_unlink.Goals as goal
+
+pub returns-clause-may : goal.returns-clause-may
+returns-clause-may c = subst IsObjectName (sym c.in_ok-copy.ensures.ok) (path_named c.args.path.now c.requires)
