@@ -6,27 +6,33 @@ use Rattle.std.specs.Option.{option_map_or}
 use Rattle.bucket_api.specs.Metadata.{Metadata}
 use Rattle.bucket_api.specs.Operation.{max_content}
 use Rattle.fuse_requests.specs.declared.request.Request.{Request}
-use Rattle.fuse_requests.specs.declared.request.Request.TheVariants.{Create, Forget, Init, Lookup, Setattr}
+use Rattle.fuse_requests.specs.declared.request.Request.TheVariants.{Create, Forget, Init, Lookup, Mkdir, Mknod, Readlink, Rename, Rmdir, Setattr, Symlink, Unlink}
 use Rattle.inode_spec.specs.Inodes.{file_of, forgotten, granted, root, root_number}
 use Rattle.mount_model.specs.Observing.{Observed}
 use Rattle.fuse_replies.specs.Errno.{enospc}
 use Rattle.mount_model.specs.declared.config.Config.{Config}
-use Rattle.mount_rules.specs.Dispatch.{early, goes_on, is_full, mount_after, refused_at_take, rules_of, taken_at}
+use Rattle.mount_rules.specs.Dispatch.{early, goes_on, is_full, mount_after, refused_at_take, rules_of, taken_at, wants}
 use Rattle.mount_rules.specs.Files.{FilesAreShort, with_staged}
-use Rattle.mount_rules.specs.Making.{Made, made, new}
+use Rattle.mount_rules.specs.Making.{Made, exists, fault, made, new}
 use Rattle.mount_rules.specs.Mount.{File, MountModel, Node, NodeTable, first_mount}
-use Rattle.mount_rules.specs.Plans.{Contents, answers_of, last_moment}
+use Rattle.mount_rules.specs.Plans.{Contents, Wanted, answers_of, last_moment}
 use Rattle.mount_rules.specs.Requests.Create as create
 use Rattle.mount_rules.specs.Requests.Forget.{is_held}
 use Rattle.mount_rules.specs.Requests.Init as init
 use Rattle.mount_rules.specs.Requests.Lookup as lookup
+use Rattle.mount_rules.specs.Requests.Mkdir as mkdir
+use Rattle.mount_rules.specs.Requests.Mknod as mknod
+use Rattle.mount_rules.specs.Removing as removing
+use Rattle.mount_rules.specs.Requests.Rename as rename
+use Rattle.mount_rules.specs.Requests.Rmdir as rmdir
 use Rattle.mount_rules.specs.Requests.Setattr as setattr
+use Rattle.mount_rules.specs.Requests.Unlink as unlink
 use Rattle.mount_rules.specs.Rules.{AtTake, Taken}
-use Rattle.mount_rules.specs.Showing.{after_showing, new_node, object_again}
-use Rattle.mount_rules.specs.View.{Sight}
+use Rattle.mount_rules.specs.Showing.{after_directory, after_showing, directory_again, new_directory, new_node, object_again}
+use Rattle.mount_rules.specs.View.{Sight, View}
 use Rattle.staging_spec.specs.StagedFiles.{StagedContent}
 use Rattle.mount_laws.proofs.Keeping.{no_Some, same_Some}
-use Rattle.mount_laws.proofs.Showings.{ShownAgain-object, shown_nodes}
+use Rattle.mount_laws.proofs.Showings.{ShownAgain-directory, ShownAgain-object, shown_nodes}
 use Rattle.mount_laws.proofs.Sources.{IsTold, NodesFrom, NodesFrom-stay, NodesFrom-told, NodesStay-forgotten, ShowsBy, WasThere, shown_in}
 use Rattle.spare_maps.proofs.FinMaps.{number_put}
 
@@ -88,18 +94,93 @@ module _ (at : AtTake) (mount : MountModel) (short : FilesAreShort mount) where
       moment : ℕ
       moment = last_moment seen
 
+  new_node_short : (path : List ℕ) (meta : Metadata) (moment : ℕ) → meta.size ≤ max_content → AreShort (granted mount.table (new_node path meta moment))
+  new_node_short path meta moment small =
+      nodes_short mount.table (granted mount.table (new_node path meta moment)) (NodesFrom-told Small mount.table mount.table.next (new_node path meta moment) small) short
+
   pub create_short : (node : ℕ) (name : List ℕ) (seen : List Observed) (meta : Metadata) → made (answers_of seen) ≡ new meta → meta.size ≤ max_content
       → FilesAreShort (mount_after at mount (Create node name) seen)
   create_short node name seen meta is small =
       goes (Create node name) seen
-      (subst (λ (m : Made). FilesAreShort (create.mount_after mount path moment m)) (sym is)
-      (nodes_short mount.table (granted mount.table (new_node path meta moment)) (NodesFrom-told Small mount.table mount.table.next (new_node path meta moment) small) short))
+      (subst (λ (m : Made). FilesAreShort (create.mount_after mount path moment m)) (sym is) (new_node_short path meta moment small))
     where
       path : List ℕ
       path = create.path_of name (taken_at at mount (Create node name)).view
 
       moment : ℕ
       moment = last_moment seen
+
+  -- an object that is made and not opened
+  made_short : (path : List ℕ) (seen : List Observed) (meta : Metadata) → made (answers_of seen) ≡ new meta → meta.size ≤ max_content
+      → FilesAreShort (mknod.mount_after mount path (last_moment seen) (made (answers_of seen)))
+  made_short path seen meta is small =
+      subst (λ (m : Made). FilesAreShort (mknod.mount_after mount path (last_moment seen) m)) (sym is) (new_node_short path meta (last_moment seen) small)
+
+  pub mknod_short : (node mode : ℕ) (name : List ℕ) (seen : List Observed) (meta : Metadata) → made (answers_of seen) ≡ new meta → meta.size ≤ max_content
+      → FilesAreShort (mount_after at mount (Mknod node mode name) seen)
+  mknod_short node mode name seen meta is small =
+      goes (Mknod node mode name) seen (made_short (create.path_of name (taken_at at mount (Mknod node mode name)).view) seen meta is small)
+
+  pub symlink_short : (node : ℕ) (name target : List ℕ) (seen : List Observed) (meta : Metadata) → made (answers_of seen) ≡ new meta → meta.size ≤ max_content
+      → FilesAreShort (mount_after at mount (Symlink node name target) seen)
+  symlink_short node name target seen meta is small =
+      goes (Symlink node name target) seen (made_short (create.path_of name (taken_at at mount (Symlink node name target)).view) seen meta is small)
+
+  -- a directory has no content
+  pub mkdir_short : (node : ℕ) (name : List ℕ) (seen : List Observed) → FilesAreShort (mount_after at mount (Mkdir node name) seen)
+  mkdir_short node name seen = goes (Mkdir node name) seen (by (made (answers_of seen)))
+    where
+      prefix : List ℕ
+      prefix = mkdir.prefix_of name (taken_at at mount (Mkdir node name)).view
+
+      by : (came : Made) → FilesAreShort (mkdir.mount_after mount prefix came)
+      by (new meta) =
+          nodes_short mount.table (after_directory mount.table prefix) (shown_nodes directory_again ShownAgain-directory mount.table prefix Small (new_directory prefix) tt) short
+      by exists = short
+      by fault = short
+
+  pub readlink_short : (node : ℕ) (seen : List Observed) → FilesAreShort (mount_after at mount (Readlink node) seen)
+  readlink_short node seen = goes (Readlink node) seen short
+
+  -- a name that loses its current node changes no node
+  removed_short : (name : List ℕ) (removed : removing.Removed) → FilesAreShort (removing.mount_after mount name removed)
+  removed_short name removing.gone = short
+  removed_short name removing.nothing = short
+  removed_short name removing.fault = short
+
+  pub unlink_short : (node : ℕ) (name : List ℕ) (seen : List Observed) → FilesAreShort (mount_after at mount (Unlink node name) seen)
+  unlink_short node name seen =
+      goes (Unlink node name) seen (removed_short (unlink.path_of name (taken_at at mount (Unlink node name)).view) (unlink.removed (answers_of seen)))
+
+  pub rmdir_short : (node : ℕ) (name : List ℕ) (seen : List Observed) → FilesAreShort (mount_after at mount (Rmdir node name) seen)
+  rmdir_short node name seen = goes (Rmdir node name) seen (by (rmdir.came_of prefix (answers_of seen)))
+    where
+      prefix : List ℕ
+      prefix = mkdir.prefix_of name (taken_at at mount (Rmdir node name)).view
+
+      by : (came : rmdir.Came) → FilesAreShort (rmdir.mount_after mount prefix came)
+      by (rmdir.removed removed) = removed_short prefix removed
+      by rmdir.not_empty = short
+
+  pub rename_short : (node newdir : ℕ) (name newname : List ℕ) (seen : List Observed) → FilesAreShort (mount_after at mount (Rename node newdir name newname) seen)
+  rename_short node newdir name newname seen = goes (Rename node newdir name newname) seen (by (rename.came names view (answers_of seen)))
+    where
+      names : rename.Names
+      names = record { name = name; newdir = newdir; newname = newname }
+
+      view : View
+      view = (taken_at at mount (Rename node newdir name newname)).view
+
+      moved : (same : Bool) → FilesAreShort (if same then mount else removing.without_name (removing.without_name mount (rename.from_of names view)) (rename.to_of names view))
+      moved true = short
+      moved false = short
+
+      by : (came : rename.Came) → FilesAreShort (rename.mount_after names view mount came)
+      by rename.moved = moved (rename.is_same names view)
+      by rename.directory = short
+      by rename.nothing = short
+      by rename.stale = short
+      by rename.fault = short
 
   pub forget_short : (node count : ℕ) (seen : List Observed) → FilesAreShort (mount_after at mount (Forget node count) seen)
   forget_short node count seen =
@@ -147,6 +228,14 @@ not_refused config mount request none = by (early mount request) none
     by : (found : Option ℕ) → None ≡ option_map_or Some found (if is_full config mount request then Some enospc else None) → found ≡ None
     by None e = refl
     by (Some errno) e = absurd (no_Some e)
+
+-- a RENAME wants no bytes
+pub rename_quiet : (config : Config) (mount : MountModel) (node newdir : ℕ) (name newname : List ℕ) → wants config mount (Rename node newdir name newname) ≡ None
+rename_quiet config mount node newdir name newname = by (goes_on mount (Rename node newdir name newname))
+  where
+    by : (on : Bool) → ◌≡◌ {A = Option Wanted} (if on then None else None) None
+    by true = refl
+    by false = refl
 
 -- generations that hold nothing
 abbrev pub of_nothing : Contents

@@ -52,7 +52,10 @@ no_buffer prepared.Nothing other count e = no_Some (ap is_buffer e)
 no_buffer prepared.Room other count e = no_Some (ap is_buffer e)
 no_buffer (prepared.Path text) other count e = no_Some (ap is_buffer e)
 no_buffer (prepared.Name text) other count e = no_Some (ap is_buffer e)
+no_buffer (prepared.Removal path) other count e = no_Some (ap is_buffer e)
+no_buffer (prepared.Moving from to) other count e = no_Some (ap is_buffer e)
 no_buffer (prepared.Entries row) other count e = no_Some (ap is_buffer e)
+no_buffer (prepared.Target text) other count e = no_Some (ap is_buffer e)
 
 abbrev pub range_at : StagedFiles → ℕ → ℕ → ℕ → ℕ → Range
 range_at files node len first count = let overlay = overlay_at files node len in wanted_by_read (touched_by overlay) overlay.limit first count

@@ -1,5 +1,5 @@
 //! The attributes that a node is shown with.
-ghost use Rattle.std.specs.Prelude.{◌≡◌, Option, length, option_and_then, option_map};
+ghost use Rattle.std.specs.Prelude.{◌≡◌, [], Option, option_and_then, option_map, unwrap_or};
 ghost use Rattle.std.specs.List.{find};
 ghost use Rattle.std.specs.Option.{option_copied, option_map_or};
 ghost use Rattle.bucket_api.specs.declared.objects.Pair.{Pair};
@@ -75,6 +75,7 @@ fn mode_of(kind: NodeKind) -> u32
 }
 
 /// Bytes of the content, which is the staged one where there is one; of a symlink those of its target.
+#[tactic(auto, using(crate::proofs::TargetLaws::length_or_none))]
 fn size_of(inode: &Inode<File>, staged: Option<StagedAttr>) -> u64
     ensures { (found : Option StagedContent) → staged ≡ option_map attr_of found → result ≡ option_map_or (spec.size_of inode.now.kind found) inode.now.file 0 }
 {
@@ -84,7 +85,7 @@ fn size_of(inode: &Inode<File>, staged: Option<StagedAttr>) -> u64
     match inode.kind {
         NodeKind::Dir => 0,
         NodeKind::File => length_of(file, staged),
-        NodeKind::Symlink => target_length(&file.kept.meta),
+        NodeKind::Symlink => target_of(&file.kept.meta).len() as u64,
     }
 }
 
@@ -98,14 +99,14 @@ fn length_of(file: &File, staged: Option<StagedAttr>) -> u64
     }
 }
 
-/// Bytes of a symlink's target.
-fn target_length(meta: &Meta) -> u64
-    ensures { result ≡ option_map_or length (spec.target_of meta.now) 0 }
+/// The target of a symlink; empty, where the object is none.
+pub(crate) fn target_of(meta: &Meta) -> &str
+    ensures { result.now ≡ unwrap_or (spec.target_of meta.now) [] }
 {
-    let Some(pair) = target_pair(meta) else {
-        return 0;
-    };
-    pair.value.as_str().len() as u64
+    match target_pair(meta) {
+        Some(pair) => pair.value.as_str(),
+        None => "",
+    }
 }
 
 /// The time of a node, in seconds and nanoseconds of Unix time: of a directory the second at which the mount started.

@@ -12,13 +12,13 @@ ghost use Rattle.mount_state.specs.Spares.{Fills, IsFor, need};
 ghost use Rattle.mount_state.specs.Tables.{mount_of, HasRoom, Uses};
 
 use crate::base::Base;
+use crate::groups::{Group, group_of};
 use crate::spare::Spare;
 use crate::tables::Tables;
 use fuse_replies::Reply;
 use fuse_requests::Request;
 use io_ports::Row;
 use mount_model::{Config, Observation};
-use plan_files::Asked;
 
 impl Tables {
     /// What a request that observed this is answered, and the tables then.
@@ -45,64 +45,10 @@ impl Tables {
         ensures uses { Uses (need spare.provided) self.old self.new }
         ensures sendable { IsSendable (reply_without_spare result) }
     {
-        let Spare { items, prepared } = spare;
-        match request {
-            Request::Lookup { .. } => self.look_up(config, prepared.into_path(), seen),
-            Request::Create { .. } => self.create(config, prepared.into_path(), seen),
-            Request::Readdir { .. } => Reply::Dirents(prepared.into_entries()),
-            Request::Getattr { node } => self.tell_attributes(config, *node, seen),
-            Request::Opening { node, .. } => self.open_file(*node, seen),
-            Request::Read {
-                node,
-                first,
-                size,
-                ..
-            } => self.read(*node, *first, *size, prepared, seen.as_slice(), base),
-            Request::Write {
-                node,
-                first,
-                content,
-                ..
-            } => self.write(
-                second,
-                *node,
-                *first,
-                content.as_slice(),
-                seen.as_slice(),
-                &base,
-            ),
-            Request::Setattr {
-                node,
-                valid,
-                size,
-                mtime,
-                nanos,
-            } => {
-                let asked = Asked {
-                    valid: *valid,
-                    size: *size,
-                    seconds: *mtime,
-                    nanos: *nanos,
-                };
-                self.set_attributes(config, second, *node, &asked, seen)
-            }
-            Request::Flush { node, .. } | Request::Fsync { node, .. } => {
-                self.flush(*node, prepared, seen)
-            }
-            Request::Release { node, fh } => self.release_file(*node, *fh),
-            Request::Opendir { node } => self.open_directory(*node, items, seen),
-            Request::Releasedir { fh, .. } => self.release_directory(*fh),
-            Request::Fsyncdir { .. } | Request::Destroy => Reply::Empty,
-            Request::Statfs => Reply::Stat,
-            Request::Init {
-                major,
-                minor,
-                readahead,
-                flags,
-            } => self.init(*major, *minor, *readahead, *flags),
-            Request::Forget { node, count } => self.forget(*node, *count),
-            Request::BatchForget { pairs } => self.forget_pairs(pairs.as_slice()),
-            _ => Reply::Silent,
+        match group_of(request) {
+            Group::Entry => self.finish_naming(config, request, spare.into_prepared(), seen),
+            Group::Node => self.finish_on_node(config, second, request, spare, seen, base),
+            Group::Mount => self.finish_on_mount(request),
         }
     }
 }

@@ -4,32 +4,43 @@
 
 mod attributes;
 mod base;
-mod create;
 mod entries;
 mod file;
 mod finish;
 mod flush;
 mod forget;
 mod getattr;
+mod groups;
 mod init;
 mod limits;
 mod lookup;
+mod making;
 mod mount;
+mod moving;
+mod naming;
+mod on_mount;
+mod on_node;
 mod open;
 mod opendir;
 mod path;
 mod prepare;
 mod prepared;
 mod read;
+mod readlink;
 mod refusals;
 mod release;
 mod releasedir;
+#[cfg(test)]
+mod removal_tests;
+mod removing;
+mod rename;
 mod setattr;
 mod showing;
 mod spare;
 mod staged;
 mod standing;
 mod tables;
+mod target;
 #[cfg(test)]
 mod tests;
 mod unread;

@@ -1,14 +1,19 @@
 //! What a request asks for that no request may have.
 ghost use Rattle.std.specs.Prelude.{◌≡◌, ◌&&◌, None, length, not};
 ghost use Rattle.mount_rules.specs.Guards as guards;
+ghost use Rattle.mount_rules.specs.Requests.Mknod as mknod;
+ghost use Rattle.mount_rules.specs.Requests.Readlink as readlink;
 ghost use Rattle.mount_rules.specs.Requests.Setattr as setattr;
+ghost use Rattle.mount_rules.specs.Requests.Symlink as symlink;
 ghost use Rattle.mount_rules.specs.Requests.Write as writing;
 ghost use Rattle.plan_files.specs.Settings.{asked_of};
+ghost use Rattle.std.specs.Str.{is_utf8};
 
 use file_metadata::LAST_SECOND;
-use fuse_replies::errno::{EFBIG, EINVAL, EISDIR};
+use fuse_replies::errno::{EFBIG, EINVAL, EISDIR, ENAMETOOLONG};
 use object_names::NodeKind;
 use plan_files::Asked;
+use std::str;
 
 /// The most bytes that a READ or READDIR may ask for.
 const LONGEST_READ: u32 = 1_048_576;
@@ -18,6 +23,15 @@ const LONGEST_WRITE: usize = 131_072;
 
 /// The most bytes of a content.
 const LONGEST_CONTENT: u64 = 16_777_216;
+
+/// The most bytes of a symlink's target: `PATH_MAX` of limits.h, without the zero byte.
+const LONGEST_TARGET: usize = 4095;
+
+/// The bits of a mode that hold its type: `S_IFMT` of stat.h.
+const S_IFMT: u32 = 0o170000;
+
+/// The type of a regular file: `S_IFREG` of stat.h.
+const S_IFREG: u32 = 0o100000;
 
 /// The last nanosecond of a second.
 const LAST_NANO: u32 = 999_999_999;
@@ -107,4 +121,43 @@ fn is_out_of_range(asked: &Asked) -> bool
     asked.sets_time()
         && !asked.sets_now()
         && (asked.seconds > LAST_SECOND || asked.nanos > LAST_NANO)
+}
+
+/// Whether the type in a mode is that of a regular file, or none.
+#[tactic(auto, using(crate::proofs::ModeLaws::regular_type))]
+pub(crate) fn is_regular(mode: u32) -> bool
+    ensures { result ≡ mknod.is_regular mode }
+{
+    let kind = mode & S_IFMT;
+    kind == 0 || kind == S_IFREG
+}
+
+/// The error of a symlink's target that is empty or not UTF-8, or is too long.
+pub(crate) fn target_refusal(target: &[u8]) -> Option<u32>
+    ensures { result ≡ symlink.target_refusal target.now }
+{
+    if target.is_empty() || !is_utf8(target) {
+        return Some(EINVAL);
+    }
+    if target.len() > LONGEST_TARGET {
+        return Some(ENAMETOOLONG);
+    }
+    None
+}
+
+/// Whether bytes are UTF-8.
+fn is_utf8(bytes: &[u8]) -> bool
+    ensures { result ≡ is_utf8 bytes.now }
+{
+    str::from_utf8(bytes).is_ok()
+}
+
+/// The error of a kind of node that has no target.
+pub(crate) fn not_a_symlink(kind: NodeKind) -> Option<u32>
+    ensures { result ≡ readlink.kind_refusal kind }
+{
+    match kind {
+        NodeKind::Symlink => None,
+        _ => Some(EINVAL),
+    }
 }

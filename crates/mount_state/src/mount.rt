@@ -120,8 +120,9 @@ impl Mount {
     }
 
     /// Makes all memory that a request will want at its end, beside what is promised to requests under way. `NoMemory`
-    /// where memory was refused, or where room for 2^48 was promised before; it leaves the mount as it was, and never
-    /// comes to a request that wants nothing.
+    /// where memory was refused, where room for 2^48 was promised before, or where a READLINK's target is longer than one
+    /// reply holds, which is 4,294,967,279 bytes; it leaves the mount as it was, and never comes to a request that wants
+    /// nothing.
     pub fn prepare(&mut self, alloc: Global, request: &Request) -> Result<Spare, NoMemory>
         requires free { early self.old.mount (without_spare request.now) ≡ None }
         ensures ok { IfOk result (λ spare. IsFor self.old.mount (without_spare request.now) spare) }

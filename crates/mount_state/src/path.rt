@@ -8,7 +8,7 @@ use std::marker::Model;
 
 /// A path with room for a slash behind it. Contracts see the path.
 #[derive(Drop)]
-struct RoomyPath {
+pub(crate) struct RoomyPath {
     text: String,
 }
 
@@ -24,7 +24,7 @@ impl Model for RoomyPath {
 
 impl RoomyPath {
     /// The path of a part of a directory. `NoMemory` where memory for it was refused.
-    fn of(alloc: Global, prefix: &str, part: &str) -> Result<RoomyPath, NoMemory>
+    pub(crate) fn of(alloc: Global, prefix: &str, part: &str) -> Result<RoomyPath, NoMemory>
         ensures { IfOk result (λ path. path ≡ prefix.now ++ part.now) }
     {
         let mut text = String::with_capacity(alloc, prefix.len() + part.len() + 1)?;
@@ -42,6 +42,13 @@ impl RoomyPath {
         Ok(RoomyPath { text })
     }
 
+    /// The path, lent.
+    pub(crate) fn as_str(&self) -> &str
+        ensures { result.now ≡ self.now }
+    {
+        self.text.as_str()
+    }
+
     /// The path.
     fn into_path(self) -> Text
         ensures { result ≡ self }
@@ -51,7 +58,7 @@ impl RoomyPath {
     }
 
     /// The prefix of the directory at the path: no memory is asked for.
-    fn into_prefix(self) -> Text
+    pub(crate) fn into_prefix(self) -> Text
         ensures { result ≡ dir_prefix_of self }
     {
         let RoomyPath { mut text } = self;

@@ -1,5 +1,5 @@
 //! What a request will want at its end, made before it asks anything.
-ghost use Rattle.std.specs.Prelude.{◌≡◌, ◌≢◌, [], None, IfOk, IsSome, OnErr, drop, length, option_and_then};
+ghost use Rattle.std.specs.Prelude.{◌≡◌, ◌≢◌, ◌++◌, [], None, IfOk, IsSome, OnErr, drop, length, option_and_then};
 ghost use Rattle.std.specs.FinMap as fin;
 ghost use Rattle.std.specs.Option.{option_map_or};
 ghost use Rattle.fuse_requests.specs.Grammar.{without_spare};
@@ -8,16 +8,18 @@ ghost use Rattle.mount_rules.specs.Guards as guards;
 ghost use Rattle.mount_rules.specs.View.{sight_at};
 ghost use Rattle.mount_state.specs.Files.{change_at};
 ghost use Rattle.mount_rules.specs.Requests.Readdir as readdir;
-ghost use Rattle.mount_state.specs.Spares.{entries, flush_wants, nothing, path, provided_by, provided_for, read_wants, setattr_wants, write_wants};
+ghost use Rattle.mount_rules.specs.Requests.Rename as rename;
+ghost use Rattle.mount_state.specs.Moving.{moving_view, names_of};
+ghost use Rattle.mount_state.specs.Spares.{entries, flush_wants, nothing, path, provided_by, provided_for, read_wants, removal, rename_wants, setattr_wants, write_wants};
 ghost use Rattle.mount_state.specs.Tables.{mount_of};
 ghost use Rattle.plan_files.specs.Settings.{asked_of};
 
 use crate::entries::entries_from;
-use crate::path::PathTwice;
+use crate::path::{PathTwice, RoomyPath};
 use crate::prepared::Prepared;
 use crate::tables::Tables;
 use fuse_requests::Request;
-use io_ports::NoMemory;
+use io_ports::{NoMemory, Text};
 use object_names::{component_text, strip_suffix};
 use plan_files::{Asked, Change};
 use std::alloc::Global;
@@ -33,7 +35,28 @@ impl Tables {
             Request::Lookup { node, name } => {
                 self.path(alloc, *node, strip_suffix(name.as_slice()).0)
             }
-            Request::Create { node, name } => self.path(alloc, *node, name.as_slice()),
+            Request::Create { node, name }
+            | Request::Mknod { node, name, .. }
+            | Request::Symlink { node, name, .. }
+            | Request::Mkdir { node, name } => self.path(alloc, *node, name.as_slice()),
+            Request::Readlink { node } => self.target(alloc, *node),
+            Request::Unlink { node, name } => {
+                self.removal(alloc, *node, strip_suffix(name.as_slice()).0)
+            }
+            Request::Rmdir { node, name } => self.removal(alloc, *node, name.as_slice()),
+            Request::Rename {
+                node,
+                newdir,
+                name,
+                newname,
+            } => self.moving(alloc, *node, *newdir, name.as_slice(), newname.as_slice()),
+            Request::Rename2 {
+                node,
+                newdir,
+                name,
+                newname,
+                ..
+            } => self.moving(alloc, *node, *newdir, name.as_slice(), newname.as_slice()),
             Request::Readdir {
                 node,
                 fh,
@@ -75,15 +98,57 @@ impl Tables {
         requires { guards.in_directory (sight_at self.now.nodes.table node) (guards.part_refusal part.now) ≡ None }
         ensures { IfOk result (λ prepared. provided_by prepared ≡ path (guards.path_in (sight_at self.now.nodes.table node) part.now)) }
     {
+        let (prefix, part) = self.child(node, part);
+        let path = PathTwice::of(alloc, prefix, part)?;
+        Ok(Prepared::Path(path))
+    }
+
+    /// The path of what is to be removed of a live directory.
+    fn removal(&self, alloc: Global, node: u64, part: &[u8]) -> Result<Prepared, NoMemory>
+        requires { guards.in_directory (sight_at self.now.nodes.table node) (guards.part_refusal part.now) ≡ None }
+        ensures { IfOk result (λ prepared. provided_by prepared ≡ removal (guards.path_in (sight_at self.now.nodes.table node) part.now)) }
+    {
+        let (prefix, part) = self.child(node, part);
+        let path = RoomyPath::of(alloc, prefix, part)?;
+        Ok(Prepared::Removal(path))
+    }
+
+    /// The prefix of a live directory, and a part of it as a text.
+    fn child<'a>(&'a self, node: u64, part: &'a [u8]) -> (&'a str, &'a str)
+        requires { guards.in_directory (sight_at self.now.nodes.table node) (guards.part_refusal part.now) ≡ None }
+        ensures { result.0.now ++ result.1.now ≡ guards.path_in (sight_at self.now.nodes.table node) part.now }
+    {
         let Some(inode) = self.nodes.get(node) else {
             unreachable!();
         };
         let Ok(part) = component_text(part) else {
             unreachable!();
         };
-        let prefix = inode.name.as_str();
-        let path = PathTwice::of(alloc, prefix, part)?;
-        Ok(Prepared::Path(path))
+        (inode.name.as_str(), part)
+    }
+
+    /// The paths of what is to be moved; nothing where they are one.
+    fn moving(
+        &self,
+        alloc: Global,
+        node: u64,
+        newdir: u64,
+        name: &[u8],
+        newname: &[u8],
+    ) -> Result<Prepared, NoMemory>
+        requires { rename.refusal (names_of name.now newdir newname.now) (moving_view (mount_of self.now) node (names_of name.now newdir newname.now)) ≡ None }
+        ensures ok { IfOk result (λ prepared. provided_by prepared ≡ rename_wants (names_of name.now newdir newname.now) (moving_view (mount_of self.now) node (names_of name.now newdir newname.now))) }
+        ensures full { OnErr result (rename_wants (names_of name.now newdir newname.now) (moving_view (mount_of self.now) node (names_of name.now newdir newname.now)) ≢ nothing) }
+    {
+        let Ok(paths) = self.paths_of(node, newdir, name, newname) else {
+            unreachable!();
+        };
+        if paths.are_one() {
+            return Ok(Prepared::Nothing);
+        }
+        let from = Text::of(alloc, paths.from.as_str())?;
+        let to = Text::of(alloc, paths.to.as_str())?;
+        Ok(Prepared::Moving { from, to })
     }
 
     /// The entries of an open directory from a position on, as many whole ones as fit.

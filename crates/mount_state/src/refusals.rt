@@ -1,5 +1,5 @@
 //! Why a request is refused before it asks anything.
-ghost use Rattle.std.specs.Prelude.{◌≡◌, Some, None, length, if◌then◌else◌};
+ghost use Rattle.std.specs.Prelude.{◌≡◌, ◌≤◌, ◌++◌, Some, None, IfOk, MatchResult, length, if◌then◌else◌};
 ghost use Rattle.std.specs.FinMap as fin;
 ghost use Rattle.fuse_replies.specs.Errno.{enospc, enotdir, estale};
 ghost use Rattle.fuse_requests.specs.Grammar.{without_spare};
@@ -8,16 +8,23 @@ ghost use Rattle.mount_model.specs.declared.config.Config.{Config};
 ghost use Rattle.mount_rules.specs.Dispatch as rules;
 ghost use Rattle.mount_rules.specs.Files.{FilesAreShort};
 ghost use Rattle.mount_rules.specs.Guards as guards;
+ghost use Rattle.mount_rules.specs.Requests.Mknod as mknod;
+ghost use Rattle.mount_rules.specs.Requests.Readlink as readlink;
 ghost use Rattle.mount_rules.specs.Requests.Setattr as setattr;
+ghost use Rattle.mount_rules.specs.Requests.Symlink as symlink;
 ghost use Rattle.mount_rules.specs.Requests.Write as writing;
-ghost use Rattle.mount_rules.specs.Rules.{at_handle};
+ghost use Rattle.mount_rules.specs.Rules.{at_handle, at_node};
 ghost use Rattle.mount_rules.specs.View.{Sight, sight_at, view_of};
 ghost use Rattle.mount_state.specs.Files.{HasBlocks};
 ghost use Rattle.mount_state.specs.Tables.{mount_of};
+ghost use Rattle.object_names.specs.Paths.{path_max};
 ghost use Rattle.plan_files.specs.Settings.{asked_of};
 
 use crate::file::File;
-use crate::limits::{not_a_file, setattr_refusal, size_refusal, write_refusal};
+use crate::limits::{
+    is_regular, not_a_file, not_a_symlink, setattr_refusal, size_refusal, target_refusal,
+    write_refusal,
+};
 use crate::tables::Tables;
 use crate::unread::{is_init, is_silent, unread};
 use fuse_replies::errno::{EBADF, EINVAL, ENAMETOOLONG, ENOSPC, ENOSYS, ENOTDIR, EPROTO, ESTALE};
@@ -76,11 +83,35 @@ impl Tables {
         ensures { result ≡ (rules.rules_of (without_spare request.now)).refusal (rules.view_in (mount_of self.now) (without_spare request.now)) }
     {
         match request {
-            Request::Lookup { node, name } => self.child_refusal(
+            Request::Lookup { node, name } | Request::Unlink { node, name } => self.child_refusal(
                 *node,
                 strip_suffix(name.as_slice()).0,
             ),
-            Request::Create { node, name } => self.child_refusal(*node, name.as_slice()),
+            Request::Create { node, name }
+            | Request::Mkdir { node, name }
+            | Request::Rmdir { node, name } => self.child_refusal(*node, name.as_slice()),
+            Request::Mknod { node, mode, name } => self.mknod_refusal(
+                *node,
+                *mode,
+                name.as_slice(),
+            ),
+            Request::Symlink { node, name, target } => {
+                self.symlink_refusal(*node, name.as_slice(), target.as_slice())
+            }
+            Request::Readlink { node } => self.readlink_refusal(*node),
+            Request::Rename {
+                node,
+                newdir,
+                name,
+                newname,
+            } => self.rename_refusal(*node, *newdir, name.as_slice(), newname.as_slice()),
+            Request::Rename2 {
+                node,
+                newdir,
+                flags,
+                name,
+                newname,
+            } => self.rename2_refusal(*node, *newdir, *flags, name.as_slice(), newname.as_slice()),
             Request::Opendir { node } => self.directory_refusal(*node),
             Request::Getattr { node } => self.live_refusal(*node),
             Request::Opening { node, .. } => self.file_refusal(*node),
@@ -116,7 +147,6 @@ impl Tables {
             Request::Init { .. } | Request::Statfs | Request::Destroy => None,
             Request::Forget { .. } | Request::BatchForget { .. } | Request::Interrupt => None,
             Request::Unknown { opcode } => unread(*opcode),
-            _ => Some(ENOSYS),
         }
     }
 
@@ -160,6 +190,36 @@ impl Tables {
         match kind_refusal(node, inode) {
             Some(errno) => Some(errno),
             None => part_refusal(part, inode.name.as_str()),
+        }
+    }
+
+    /// The error of a MKNOD: that its mode is of no regular file, or that of its name.
+    fn mknod_refusal(&self, node: u64, mode: u32, part: &[u8]) -> Option<u32>
+        ensures { result ≡ mknod.refusal mode part.now (view_of (mount_of self.now) (at_node node)) }
+    {
+        if !is_regular(mode) {
+            return Some(ENOSYS);
+        }
+        self.child_refusal(node, part)
+    }
+
+    /// The error of a SYMLINK: that of its name, or of its target.
+    fn symlink_refusal(&self, node: u64, part: &[u8], target: &[u8]) -> Option<u32>
+        ensures { result ≡ guards.in_directory (sight_at self.now.nodes.table node) (symlink.texts_refusal part.now target.now) }
+    {
+        match self.child_refusal(node, part) {
+            Some(errno) => Some(errno),
+            None => target_refusal(target),
+        }
+    }
+
+    /// The error of a READLINK: that the node isn't live, or is no symlink.
+    fn readlink_refusal(&self, node: u64) -> Option<u32>
+        ensures { result ≡ guards.on_live (sight_at self.now.nodes.table node) (λ sight. readlink.kind_refusal sight.kind) }
+    {
+        match self.nodes.get(node) {
+            Some(inode) if is_live(node, inode) => not_a_symlink(inode.kind),
+            _ => Some(ESTALE),
         }
     }
 
@@ -236,7 +296,7 @@ pub(crate) fn is_live(node: u64, inode: &Inode<File>) -> bool
 }
 
 /// Whether a node of this kind is a directory.
-fn is_directory(kind: NodeKind) -> bool
+pub(crate) fn is_directory(kind: NodeKind) -> bool
     ensures { result ≡ guards.is_directory kind }
 {
     match kind {
@@ -262,10 +322,21 @@ fn kind_refusal(node: u64, inode: &Inode<File>) -> Option<u32>
 fn part_refusal(part: &[u8], prefix: &str) -> Option<u32>
     ensures { (sight : Sight) → sight.name ≡ prefix.now → result ≡ guards.part_refusal part.now sight }
 {
+    match part_text(part, prefix) {
+        Err(errno) => Some(errno),
+        Ok(_) => None,
+    }
+}
+
+/// A name in the directory of a prefix, as a text; else its error.
+pub(crate) fn part_text<'a>(part: &'a [u8], prefix: &str) -> Result<&'a str, u32>
+    ensures part { (sight : Sight) → sight.name ≡ prefix.now → MatchResult result (λ text. (text.now ≡ part.now) × (guards.part_refusal part.now sight ≡ None)) (λ errno. guards.part_refusal part.now sight ≡ Some errno) }
+    ensures fits { IfOk result (λ text. length (prefix.now ++ text.now) ≤ path_max) }
+{
     match component_text(part) {
-        Err(NameFault::TooLong) => Some(ENAMETOOLONG),
-        Err(_) => Some(EINVAL),
-        Ok(part) if path_fits(prefix, part) => None,
-        Ok(_) => Some(ENAMETOOLONG),
+        Err(NameFault::TooLong) => Err(ENAMETOOLONG),
+        Err(_) => Err(EINVAL),
+        Ok(text) if path_fits(prefix, text) => Ok(text),
+        Ok(_) => Err(ENAMETOOLONG),
     }
 }

@@ -1,4 +1,7 @@
 //! The memory that a request will want at its end.
+ghost use Rattle.std.specs.Prelude.{◌≡◌};
+ghost use Rattle.mount_state.specs.Spares.{provided_by};
+
 use crate::prepared::Prepared;
 use io_ports::Row;
 use object_names::DirItem;
@@ -20,4 +23,22 @@ impl Model for Spare {
     ghost Value = { SpareState };
 
     ghost view = { λ s. record { items = s.items.items; provided = provided_by s.prepared } };
+}
+
+impl Spare {
+    /// The entries; what the mount prepared is let go.
+    pub(crate) fn into_items(self) -> Row<DirItem>
+        ensures { result.items ≡ self.items }
+    {
+        let Spare { items, prepared: _ } = self;
+        items
+    }
+
+    /// What the mount prepared; the entries are let go.
+    pub(crate) fn into_prepared(self) -> Prepared
+        ensures { provided_by result ≡ self.provided }
+    {
+        let Spare { items: _, prepared } = self;
+        prepared
+    }
 }

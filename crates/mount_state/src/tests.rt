@@ -30,15 +30,15 @@ const NOW: u64 = 40;
 
 /// What a reply shows of a node: its number, size, mode and time. Where the request failed, the errno in place of the mode.
 #[derive(Clone, Copy, Debug, PartialEq, Eq)]
-struct Outcome {
-    node: u64,
-    size: u64,
-    mode: u32,
-    time: (u64, u32),
+pub(crate) struct Outcome {
+    pub(crate) node: u64,
+    pub(crate) size: u64,
+    pub(crate) mode: u32,
+    pub(crate) time: (u64, u32),
 }
 
 /// A regular file of 5 bytes, which was changed at second 7.
-fn file(node: u64) -> Outcome {
+pub(crate) fn file(node: u64) -> Outcome {
     changed(node, 5, (7, 0))
 }
 
@@ -70,7 +70,7 @@ fn shows(attr: &AttrOut) -> Outcome {
     }
 }
 
-fn failed(errno: u32) -> Outcome {
+pub(crate) fn failed(errno: u32) -> Outcome {
     Outcome {
         node: 0,
         size: 0,
@@ -80,7 +80,27 @@ fn failed(errno: u32) -> Outcome {
 }
 
 /// Performs a request that observed this, where nothing refuses it.
-fn perform(
+fn answer(
+    mount: &mut Mount,
+    alloc: Global,
+    request: &Request,
+    seen: Row<Observation>,
+) -> Result<Reply, NoMemory>
+    requires short { FilesAreShort mount.old.mount }
+    requires items { (config : Config) (held : MountModel) → Fills config held (without_spare request.now) seen.items [] }
+    requires quiet { (config : Config) (held : MountModel) → wants config held (without_spare request.now) ≡ None }
+    requires stays { (at : AtTake) (held : MountModel) → IsMount held → FilesAreShort held → FilesAreShort (mount_after at held (without_spare request.now) seen.items) }
+    ensures short { FilesAreShort mount.new.mount }
+{
+    if let Some(errno) = mount.early(request) {
+        return Ok(Reply::Error(errno));
+    }
+    let spare = mount.prepare(alloc, request)?;
+    Ok(mount.finish(NOW, request, spare, seen, Base::empty(alloc)))
+}
+
+/// What is shown by the reply to a request that observed this.
+pub(crate) fn perform(
     mount: &mut Mount,
     alloc: Global,
     request: &Request,
@@ -92,16 +112,12 @@ fn perform(
     requires stays { (at : AtTake) (held : MountModel) → IsMount held → FilesAreShort held → FilesAreShort (mount_after at held (without_spare request.now) seen.items) }
     ensures short { FilesAreShort mount.new.mount }
 {
-    if let Some(errno) = mount.early(request) {
-        return Ok(failed(errno));
-    }
-    let spare = mount.prepare(alloc, request)?;
-    let reply = mount.finish(NOW, request, spare, seen, Base::empty(alloc));
+    let reply = answer(mount, alloc, request, seen)?;
     Ok(told(&reply))
 }
 
 /// A mount before its first request, which has no file.
-fn new_mount(alloc: Global) -> Result<Mount, NoMemory>
+pub(crate) fn new_mount(alloc: Global) -> Result<Mount, NoMemory>
     ensures { IfOk result (λ mount. FilesAreShort mount.mount) }
 {
     let mount = Mount::new(alloc, &Config::new())?;
@@ -109,7 +125,7 @@ fn new_mount(alloc: Global) -> Result<Mount, NoMemory>
 }
 
 /// Agrees on 7.31.
-fn agree(mount: &mut Mount, alloc: Global) -> Result<Outcome, NoMemory>
+pub(crate) fn agree(mount: &mut Mount, alloc: Global) -> Result<Outcome, NoMemory>
     requires short { FilesAreShort mount.old.mount }
     ensures short { FilesAreShort mount.new.mount }
 {
@@ -122,9 +138,9 @@ fn agree(mount: &mut Mount, alloc: Global) -> Result<Outcome, NoMemory>
     perform(mount, alloc, &request, Row::new(alloc))
 }
 
-/// That the bucket told of an object `foo` of 5 bytes.
-fn object(alloc: Global, generation: u64) -> Result<Answer, NoMemory>
-    ensures { IfOk result (λ answer. answer ≡ Answer.Meta (record { name = codes "foo"; generation = generation; metageneration = 1; size = 5; updated = 7; pairs = [] })) }
+/// That the bucket told of an object `foo` of 5 bytes, with these pairs.
+pub(crate) fn object(alloc: Global, generation: u64, pairs: Row<Pair>) -> Result<Answer, NoMemory>
+    ensures { IfOk result (λ answer. answer ≡ Answer.Meta (record { name = codes "foo"; generation = generation; metageneration = 1; size = 5; updated = 7; pairs = pairs.items })) }
 {
     let name = Text::of(alloc, "foo")?;
     Ok(Answer::Meta(Meta {
@@ -133,12 +149,12 @@ fn object(alloc: Global, generation: u64) -> Result<Answer, NoMemory>
         metageneration: 1,
         size: 5,
         updated: 7,
-        pairs: Row::new(alloc),
+        pairs,
     }))
 }
 
 /// That an operation on `foo` was answered so.
-fn observed(alloc: Global, moment: u64, answer: Answer) -> Result<Observation, NoMemory>
+pub(crate) fn observed(alloc: Global, moment: u64, answer: Answer) -> Result<Observation, NoMemory>
     ensures { IfOk result (λ observation. observation.answer ≡ answer) }
 {
     let name = Text::of(alloc, "foo")?;
@@ -153,7 +169,7 @@ fn observed(alloc: Global, moment: u64, answer: Answer) -> Result<Observation, N
 fn shown(alloc: Global, generation: u64, moment: u64) -> Result<Observation, NoMemory>
     ensures { IfOk result (λ observation. observation.answer ≡ Answer.Meta (record { name = codes "foo"; generation = generation; metageneration = 1; size = 5; updated = 7; pairs = [] })) }
 {
-    let answer = object(alloc, generation)?;
+    let answer = object(alloc, generation, Row::new(alloc))?;
     observed(alloc, moment, answer)
 }
 
@@ -171,7 +187,7 @@ fn found(alloc: Global, generation: u64, moment: u64) -> Result<Row<Observation>
 }
 
 /// What LOOKUP of `foo` in the root is answered where this generation was shown.
-fn look_up(
+pub(crate) fn look_up(
     mount: &mut Mount,
     alloc: Global,
     generation: u64,
@@ -224,11 +240,12 @@ fn a_node_stays_while_its_generation_is_shown(rt: HostRuntime) -> Result<(), Fai
     Ok(())
 }
 
-/// That `foo` was made.
-fn made(alloc: Global) -> Result<Row<Observation>, NoMemory>
-    ensures { IfOk result (λ seen. making.made (answers_of seen.items) ≡ making.new (record { name = codes "foo"; generation = 1; metageneration = 1; size = 5; updated = 7; pairs = [] })) }
+/// That `foo` was made, with these pairs.
+fn made(alloc: Global, pairs: Row<Pair>) -> Result<Row<Observation>, NoMemory>
+    ensures { IfOk result (λ seen. making.made (answers_of seen.items) ≡ making.new (record { name = codes "foo"; generation = 1; metageneration = 1; size = 5; updated = 7; pairs = pairs.items })) }
 {
-    let insert = shown(alloc, 1, 1)?;
+    let answer = object(alloc, 1, pairs)?;
+    let insert = observed(alloc, 1, answer)?;
     let mut seen = Row::new(alloc);
     seen.reserve(1)?;
     seen.push(insert);
@@ -236,11 +253,11 @@ fn made(alloc: Global) -> Result<Row<Observation>, NoMemory>
 }
 
 /// CREATE of `foo` in the root.
-fn create(mount: &mut Mount, alloc: Global) -> Result<Outcome, NoMemory>
+pub(crate) fn create(mount: &mut Mount, alloc: Global) -> Result<Outcome, NoMemory>
     requires short { FilesAreShort mount.old.mount }
     ensures short { FilesAreShort mount.new.mount }
 {
-    let seen = made(alloc)?;
+    let seen = made(alloc, Row::new(alloc))?;
     let name = Bytes::of(alloc, b"foo")?;
     let request = Request::Create { node: 1, name };
     perform(mount, alloc, &request, seen)
@@ -273,8 +290,148 @@ fn a_new_file_stays_while_it_is_open(rt: HostRuntime) -> Result<(), Fail> {
     Ok(())
 }
 
+/// A symlink to `t/u`, the target's three bytes long, whose object of 5 bytes was changed at second 7.
+fn link(node: u64) -> Outcome {
+    Outcome {
+        node,
+        size: 3,
+        mode: 0o120777,
+        time: (7, 0),
+    }
+}
+
+/// A directory, which shows when the mount started.
+fn directory(node: u64) -> Outcome {
+    Outcome {
+        node,
+        size: 0,
+        mode: 0o40755,
+        time: (0, 0),
+    }
+}
+
+/// MKNOD of `foo` in the root, with this mode.
+fn make_node(mount: &mut Mount, alloc: Global, mode: u32) -> Result<Outcome, NoMemory>
+    requires short { FilesAreShort mount.old.mount }
+    ensures short { FilesAreShort mount.new.mount }
+{
+    let seen = made(alloc, Row::new(alloc))?;
+    let name = Bytes::of(alloc, b"foo")?;
+    let request = Request::Mknod {
+        node: 1,
+        mode,
+        name,
+    };
+    perform(mount, alloc, &request, seen)
+}
+
+/// SYMLINK of `foo` in the root, to `t/u`.
+fn make_link(mount: &mut Mount, alloc: Global) -> Result<Outcome, NoMemory>
+    requires short { FilesAreShort mount.old.mount }
+    ensures short { FilesAreShort mount.new.mount }
+{
+    let mut pairs = Row::new(alloc);
+    pairs.reserve(1)?;
+    pairs.push(pair(alloc, "gcsfuse_symlink_target", "t/u")?);
+    let seen = made(alloc, pairs)?;
+    let name = Bytes::of(alloc, b"foo")?;
+    let target = Bytes::of(alloc, b"t/u")?;
+    let request = Request::Symlink {
+        node: 1,
+        name,
+        target,
+    };
+    perform(mount, alloc, &request, seen)
+}
+
+/// MKDIR of a name in a directory.
+fn make_directory(
+    mount: &mut Mount,
+    alloc: Global,
+    node: u64,
+    name: &[u8],
+) -> Result<Outcome, NoMemory>
+    requires short { FilesAreShort mount.old.mount }
+    ensures short { FilesAreShort mount.new.mount }
+{
+    let seen = made(alloc, Row::new(alloc))?;
+    let name = Bytes::of(alloc, name)?;
+    let request = Request::Mkdir { node, name };
+    perform(mount, alloc, &request, seen)
+}
+
+/// Whether READLINK of a node is answered this target.
+fn leads_to(mount: &mut Mount, alloc: Global, node: u64, target: &[u8]) -> Result<bool, NoMemory>
+    requires short { FilesAreShort mount.old.mount }
+    ensures short { FilesAreShort mount.new.mount }
+{
+    let request = Request::Readlink { node };
+    let reply = answer(mount, alloc, &request, Row::new(alloc))?;
+    Ok(matches!(&reply, Reply::Target(bytes) if bytes.as_slice() == target))
+}
+
+/// The modes have the types of a regular file, of none, of a FIFO and of a directory: the last two have no object (ENOSYS).
+fn names_are_made<R: Abort + AllocGlobal>(mount: &mut Mount, rt: &R) -> Result<(), NoMemory>
+    requires { FilesAreShort mount.old.mount }
+{
+    agree(mount, rt.alloc())?;
+    assert_eq!(rt; make_node(mount, rt.alloc(), 0o100644)?, file(2));
+    assert_eq!(rt; make_node(mount, rt.alloc(), 0o7777)?, file(3));
+    assert_eq!(rt; make_node(mount, rt.alloc(), 0o10644)?, failed(38));
+    assert_eq!(rt; make_node(mount, rt.alloc(), 0o40755)?, failed(38));
+    Ok(())
+}
+
+#[test]
+fn an_object_is_made_of_a_regular_file_alone(rt: HostRuntime) -> Result<(), Fail> {
+    let mut mount = new_mount(rt.alloc())?;
+    names_are_made(&mut mount, &rt)?;
+    Ok(())
+}
+
+fn links_are_read<R: Abort + AllocGlobal>(mount: &mut Mount, rt: &R) -> Result<(), NoMemory>
+    requires { FilesAreShort mount.old.mount }
+{
+    agree(mount, rt.alloc())?;
+    assert_eq!(rt; make_link(mount, rt.alloc())?, link(2));
+    assert!(rt; leads_to(mount, rt.alloc(), 2, b"t/u")?);
+    Ok(())
+}
+
+#[test]
+fn a_link_is_as_long_as_its_target(rt: HostRuntime) -> Result<(), Fail> {
+    let mut mount = new_mount(rt.alloc())?;
+    links_are_read(&mut mount, &rt)?;
+    Ok(())
+}
+
+/// Names of 255 bytes, one in the other: the third has a path of 767 bytes, and the fourth the longest path, of 1,023. A
+/// directory that is made once more is shown by the node that it has.
+fn paths_grow<R: Abort + AllocGlobal>(mount: &mut Mount, rt: &R) -> Result<(), NoMemory>
+    requires { FilesAreShort mount.old.mount }
+{
+    agree(mount, rt.alloc())?;
+    let name = [b'a'; 255];
+    for node in 1..5 {
+        assert_eq!(rt;
+            make_directory(mount, rt.alloc(), node, &name)?,
+            directory(node + 1)
+        );
+    }
+    assert_eq!(rt; make_directory(mount, rt.alloc(), 5, b"a")?, failed(36));
+    assert_eq!(rt; make_directory(mount, rt.alloc(), 4, &name)?, directory(5));
+    Ok(())
+}
+
+#[test]
+fn directories_are_made_up_to_the_longest_path(rt: HostRuntime) -> Result<(), Fail> {
+    let mut mount = new_mount(rt.alloc())?;
+    paths_grow(&mut mount, &rt)?;
+    Ok(())
+}
+
 /// A SETATTR: which of its fields are valid, a length, and a time in seconds and nanoseconds; and what it is answered.
-type Setting = (u32, u64, (u64, u32), Outcome);
+pub(crate) type Setting = (u32, u64, (u64, u32), Outcome);
 
 /// One after the other, of a file of five bytes that was changed at second 7. FATTR_SIZE is 8, FATTR_MTIME 32 and
 /// FATTR_MTIME_NOW 256. 16,777,217 bytes are too many (EFBIG), and so are a thousand million nanoseconds (EINVAL).
@@ -293,7 +450,7 @@ fn settings() -> [Setting; 9] {
 }
 
 /// What is answered to a SETATTR of node 2 which asks nothing.
-fn set(mount: &mut Mount, alloc: Global, setting: &Setting) -> Result<Outcome, NoMemory>
+pub(crate) fn set(mount: &mut Mount, alloc: Global, setting: &Setting) -> Result<Outcome, NoMemory>
     requires short { FilesAreShort mount.old.mount }
     ensures short { FilesAreShort mount.new.mount }
 {
@@ -329,15 +486,17 @@ fn a_length_and_a_time_are_staged(rt: HostRuntime) -> Result<(), Fail> {
     Ok(())
 }
 
+fn pair(alloc: Global, key: &str, value: &str) -> Result<Pair, NoMemory> {
+    let key = Text::of(alloc, key)?;
+    let value = Text::of(alloc, value)?;
+    Ok(Pair { key, value })
+}
+
 /// An object that was changed at second 7, with this time set.
 fn timed(alloc: Global, time: &str) -> Result<Meta, NoMemory> {
-    let pair = Pair {
-        key: Text::of(alloc, "gcsfuse_mtime")?,
-        value: Text::of(alloc, time)?,
-    };
     let mut pairs = Row::new(alloc);
     pairs.reserve(1)?;
-    pairs.push(pair);
+    pairs.push(pair(alloc, "gcsfuse_mtime", time)?);
     Ok(Meta {
         name: Text::of(alloc, "foo")?,
         generation: 1,
@@ -387,7 +546,8 @@ fn requests_are_judged<R: Abort + AllocGlobal>(mount: &mut Mount, rt: &R) -> Res
     assert_eq!(rt; refused(mount, rt.alloc(), 1, b".")?, Some(22));
     assert_eq!(rt; refused(mount, rt.alloc(), 2, b"foo")?, Some(116));
     assert_eq!(rt; refused_long(mount, rt.alloc())?, Some(36));
-    assert_eq!(rt; mount.early(&Request::Readlink { node: 1 }), Some(38));
+    assert_eq!(rt; mount.early(&Request::Readlink { node: 1 }), Some(22));
+    assert_eq!(rt; mount.early(&Request::Unknown { opcode: 13 }), Some(38));
     assert_eq!(rt; mount.early(&Request::Fsyncdir { node: 1, fh: 1 }), Some(9));
     assert_eq!(rt; mount.early(&Request::Unknown { opcode: 1 }), Some(22));
     Ok(())
@@ -397,6 +557,50 @@ fn requests_are_judged<R: Abort + AllocGlobal>(mount: &mut Mount, rt: &R) -> Res
 fn requests_are_refused(rt: HostRuntime) -> Result<(), Fail> {
     let mut mount = new_mount(rt.alloc())?;
     requests_are_judged(&mut mount, &rt)?;
+    Ok(())
+}
+
+/// The bytes of a symlink's target, all alike, how many there are, and why a link to it is refused.
+type Target = (u8, usize, Option<u32>);
+
+/// An empty target is refused (EINVAL), and so is one of more than 4,095 bytes (ENAMETOOLONG); not being UTF-8 comes first.
+fn targets() -> [Target; 4] {
+    [
+        (b'a', 0, Some(22)),
+        (b'a', 4095, None),
+        (b'a', 4096, Some(36)),
+        (0xff, 4096, Some(22)),
+    ]
+}
+
+/// Why SYMLINK of `foo` to a target is refused.
+fn link_refused(mount: &Mount, alloc: Global, target: &Target) -> Result<Option<u32>, NoMemory>
+    requires { FilesAreShort mount.now.mount }
+{
+    let name = Bytes::of(alloc, b"foo")?;
+    let target = Bytes::from_vec(vec![in alloc; target.0; target.1]?);
+    let request = Request::Symlink {
+        node: 1,
+        name,
+        target,
+    };
+    Ok(mount.early(&request))
+}
+
+fn links_are_judged<R: Abort + AllocGlobal>(mount: &mut Mount, rt: &R) -> Result<(), NoMemory>
+    requires { FilesAreShort mount.old.mount }
+{
+    agree(mount, rt.alloc())?;
+    for target in &targets() {
+        assert_eq!(rt; link_refused(mount, rt.alloc(), target)?, target.2);
+    }
+    Ok(())
+}
+
+#[test]
+fn a_link_has_a_target_of_so_many_bytes(rt: HostRuntime) -> Result<(), Fail> {
+    let mut mount = new_mount(rt.alloc())?;
+    links_are_judged(&mut mount, &rt)?;
     Ok(())
 }
 

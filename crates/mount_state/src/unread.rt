@@ -47,6 +47,13 @@ fn is_served_opcode(opcode: u32) -> bool
         opcode::LOOKUP
             | opcode::GETATTR
             | opcode::SETATTR
+            | opcode::READLINK
+            | opcode::SYMLINK
+            | opcode::MKNOD
+            | opcode::MKDIR
+            | opcode::UNLINK
+            | opcode::RMDIR
+            | opcode::RENAME
             | opcode::OPEN
             | opcode::READ
             | opcode::WRITE
@@ -61,6 +68,7 @@ fn is_served_opcode(opcode: u32) -> bool
             | opcode::FSYNCDIR
             | opcode::CREATE
             | opcode::DESTROY
+            | opcode::RENAME2
     )
 }
 

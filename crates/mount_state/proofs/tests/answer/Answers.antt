@@ -9,13 +9,13 @@ use Rattle.mount_rules.specs.Rules.{AtTake}
 use Rattle.mount_state.specs.Mounts.{MountState}
 use Rattle.mount_state.specs.Serving.{IsServedAt}
 use Rattle.mount_state.proofs.ShortLaws.{not_refused, of_nothing}
-use Rattle.mount_state.proofs.tests.perform.Goals as goal
+use Rattle.mount_state.proofs.tests.answer.Goals as goal
 
 pub prepare-requires : goal.prepare-requires
 prepare-requires c = record { free = not_refused c.args.mount.now.config c.args.mount.now.mount (without_spare c.args.request.now) c.in_default.ensures.errno }
 
-pub finish-reply-requires-clause-free : goal.finish-reply-requires-clause-free
-finish-reply-requires-clause-free c =
+pub finish-requires-clause-free : goal.finish-requires-clause-free
+finish-requires-clause-free c =
     ap (λ (s : MountState). early s.mount (without_spare c.args.request.now)) c.in_ok-spare.ensures.room
     ∙ not_refused c.args.mount.now.config c.args.mount.now.mount (without_spare c.args.request.now) c.in_default.ensures.errno
 
@@ -31,6 +31,6 @@ returns c =
       holds = subst (λ (w : Option Wanted). HoldsWanted of_nothing w c.empty.result.first c.empty.result.bytes) (sym (c.requires.quiet prepared.config prepared.mount)) tt;
     } in
     record {
-      short = subst (λ (s : MountState). FilesAreShort s.mount) (sym (c.finish-reply.ensures.mount at served))
+      short = subst (λ (s : MountState). FilesAreShort s.mount) (sym (c.finish.ensures.mount at served))
           (c.requires.stays at prepared.mount (subst IsMount (sym was) c.early.ensures.valid) (subst (λ (m : MountModel). FilesAreShort m) (sym was) c.requires.short));
     }

@@ -5,19 +5,16 @@ use Rattle.fuse_requests.specs.declared.request.Request.{Request}
 use Rattle.fuse_requests.specs.declared.request.Request.TheVariants.{Write}
 use Rattle.mount_rules.specs.Dispatch.{early, mount_after, reply_to}
 use Rattle.mount_state.specs.Serving.{IsServedAt}
-use Rattle.mount_state.specs.Spares.{SpareState}
 use Rattle.mount_state.specs.Tables.{mount_of}
 use Rattle.mount_state.proofs.DoneLaws.{write_leaves, write_replies}
 use Rattle.mount_state.proofs.EntryLaws.{sendable_entries}
-use Rattle.mount_state.proofs.QuietLaws.{HasNoEnd, stays_quiet}
 use Rattle.mount_state.proofs.ReadLaws.{read_within}
-use Rattle.mount_state.proofs.tables.Tables.finish.Goals as goal
-use Rattle.mount_state.proofs.tables.Tables.finish.Goals.{In_default}
+use Rattle.mount_state.proofs.tables.Tables.finish_on_node.Goals as goal
 
 pub returns-in-Readdir-clause-sendable : goal.returns-in-Readdir-clause-sendable
 returns-in-Readdir-clause-sendable c =
     sendable_entries (mount_of c.args.self.now) (without_spare c.args.request.now) c.in-Readdir.node c.in-Readdir.fh c.in-Readdir.first c.in-Readdir.size c.args.spare.provided c.into_entries.result.items
-    (ap without_spare c.in-Readdir.is) c.requires.free c.requires.spare (sym (ap (λ (s : SpareState). s.provided) c.spare.view_is) ∙ c.into_entries.ensures)
+    (ap without_spare c.in-Readdir.is) c.requires.free c.requires.spare (sym c.into_prepared-in-Readdir.ensures ∙ c.into_entries.ensures)
 
 pub read-requires-clause-short : goal.read-requires-clause-short
 read-requires-clause-short c =
@@ -50,33 +47,3 @@ returns-in-Write-clause-mount c = λ at served.
     (subst (λ (r : Request). IsServedAt c.args.config.now c.args.second mount r c.args.base at) same served) c.requires.blocks (mount_of c.write.new.self) c.write.ensures.mount
     ∙ ap (λ (r : Request). mount_after at mount r seen) (sym same)
     ∙ ap (mount_after at mount (without_spare c.args.request.now)) c.as_slice-in-Write-2.ensures.items
-
--- a request without an end of its own
-other : (c : In_default) → HasNoEnd c.args.request.now
-other c = record {
-  lookup = c.in_default.not-Lookup;
-  forget = c.in_default.not-Forget;
-  getattr = c.in_default.not-Getattr;
-  setattr = c.in_default.not-Setattr;
-  opening = c.in_default.not-Opening;
-  read = c.in_default.not-Read;
-  write = c.in_default.not-Write;
-  statfs = c.in_default.not-Statfs;
-  release = c.in_default.not-Release;
-  fsync = c.in_default.not-Fsync;
-  flush = c.in_default.not-Flush;
-  init = c.in_default.not-Init;
-  opendir = c.in_default.not-Opendir;
-  readdir = c.in_default.not-Readdir;
-  releasedir = c.in_default.not-Releasedir;
-  fsyncdir = c.in_default.not-Fsyncdir;
-  create = c.in_default.not-Create;
-  destroy = c.in_default.not-Destroy;
-  batch = c.in_default.not-BatchForget;
-}
-
-pub returns-in_default-clause-reply : goal.returns-in_default-clause-reply
-returns-in_default-clause-reply c = λ at served. (stays_quiet at (mount_of c.args.self.now) c.args.seen.items c.args.request.now (other ((goal.at.returns-in_default-clause-reply c).In_default)) c.requires.free).0
-
-pub returns-in_default-clause-mount : goal.returns-in_default-clause-mount
-returns-in_default-clause-mount c = λ at served. (stays_quiet at (mount_of c.args.self.now) c.args.seen.items c.args.request.now (other ((goal.at.returns-in_default-clause-mount c).In_default)) c.requires.free).1
