@@ -71,23 +71,23 @@ wants_so (Ok errand) config mount request speaks free fits is =
 wants_so (Err e) config mount request speaks free fits is = tt
 
 -- ---- plans without reads
-after_probe_reads : (path : List ℕ) (suffix : Bool) (probed : Probed) → lookup.after_probe path suffix probed ≡ without_reads (lookup.after_probe path suffix probed)
+pub after_probe_reads : (path : List ℕ) (suffix : Bool) (probed : Probed) → lookup.after_probe path suffix probed ≡ without_reads (lookup.after_probe path suffix probed)
 after_probe_reads path true present = refl
 after_probe_reads path false present = refl
 after_probe_reads path true absent = refl
 after_probe_reads path false absent = refl
 after_probe_reads path suffix probe_failed = refl
 
-lookup_reads : (implicit : Bool) (path : List ℕ) (suffix : Bool) (told : List Answer) → lookup.plan implicit path suffix told ≡ without_reads (lookup.plan implicit path suffix told)
+pub lookup_reads : (implicit : Bool) (path : List ℕ) (suffix : Bool) (told : List Answer) → lookup.plan implicit path suffix told ≡ without_reads (lookup.plan implicit path suffix told)
 lookup_reads implicit path suffix [] = refl
 lookup_reads implicit path suffix (a ∷ []) = after_probe_reads path suffix (lookup.probed a)
 lookup_reads implicit path suffix (a ∷ b ∷ more) = refl
 
-making_reads : (name : List ℕ) (pairs : List Pair) (second : ℕ) (told : List Answer) → making.plan name pairs second told ≡ without_reads (making.plan name pairs second told)
+pub making_reads : (name : List ℕ) (pairs : List Pair) (second : ℕ) (told : List Answer) → making.plan name pairs second told ≡ without_reads (making.plan name pairs second told)
 making_reads name pairs second [] = refl
 making_reads name pairs second (a ∷ more) = refl
 
-opendir_reads : (prefix : List ℕ) (max : ℕ) (after : Option (List ℕ)) (told : List Answer) → opendir.plan prefix max after told ≡ without_reads (opendir.plan prefix max after told)
+pub opendir_reads : (prefix : List ℕ) (max : ℕ) (after : Option (List ℕ)) (told : List Answer) → opendir.plan prefix max after told ≡ without_reads (opendir.plan prefix max after told)
 opendir_reads prefix max after [] = refl
 opendir_reads prefix max after (answers.Page page ∷ more) = by page.next (λ key. opendir_reads prefix max (Some key) more)
   where
@@ -102,29 +102,15 @@ opendir_reads prefix max after (answers.NotFound ∷ more) = refl
 opendir_reads prefix max after (answers.Precondition generation metageneration ∷ more) = refl
 opendir_reads prefix max after (answers.Fault ∷ more) = refl
 
--- a look-up carries out the plan of its settings
-pub looks_so : {E : Type 0} (r : Result Errand E) (config : Config) (second : ℕ) (path : List ℕ) (suffix : Bool)
-    → IfOk r (λ errand. (content : List ℕ) (stamp : ℕ) → plan_of errand content stamp ≡ lookup.plan config.implicit_dirs path suffix)
-    → IfOk r (λ errand. (at : AtTake) → at.config ≡ config → at.second ≡ second → AsksAs (plan_over errand at.contents at.second) (lookup.plan at.config.implicit_dirs path suffix))
-looks_so (Ok errand) config second path suffix is = λ at same stamped told.
-    ap (λ (p : Plan). p told) (is (content_of errand at.contents) at.second) ∙ lookup_reads config.implicit_dirs path suffix told
-    ∙ ap (λ (c : Config). without_reads (lookup.plan c.implicit_dirs path suffix told)) (sym same)
-looks_so (Err e) config second path suffix is = tt
-
-pub makes_so : {E : Type 0} (r : Result Errand E) (config : Config) (second : ℕ) (name : List ℕ)
-    → IfOk r (λ errand. (content : List ℕ) (stamp : ℕ) → plan_of errand content stamp ≡ making.plan name [] stamp)
-    → IfOk r (λ errand. (at : AtTake) → at.config ≡ config → at.second ≡ second → AsksAs (plan_over errand at.contents at.second) (making.plan name [] at.second))
-makes_so (Ok errand) config second name is = λ at same stamped told.
-    ap (λ (p : Plan). p told) (is (content_of errand at.contents) at.second) ∙ making_reads name [] at.second told
-makes_so (Err e) config second name is = tt
-
-pub lists_so : {E : Type 0} (r : Result Errand E) (config : Config) (second : ℕ) (prefix : List ℕ)
-    → IfOk r (λ errand. (content : List ℕ) (stamp : ℕ) → plan_of errand content stamp ≡ opendir.plan prefix config.list_page None)
-    → IfOk r (λ errand. (at : AtTake) → at.config ≡ config → at.second ≡ second → AsksAs (plan_over errand at.contents at.second) (opendir.plan prefix at.config.list_page None))
-lists_so (Ok errand) config second prefix is = λ at same stamped told.
-    ap (λ (p : Plan). p told) (is (content_of errand at.contents) at.second) ∙ opendir_reads prefix config.list_page None told
-    ∙ ap (λ (c : Config). without_reads (opendir.plan prefix c.list_page None told)) (sym same)
-lists_so (Err e) config second prefix is = tt
+-- an errand that carries out a plan without reads, of its settings and the second of its call, asks what it asks
+pub asks_so : {E : Type 0} (r : Result Errand E) (config : Config) (second : ℕ) (asked : Config → ℕ → Plan)
+    → ((c : Config) (stamp : ℕ) (told : List Answer) → asked c stamp told ≡ without_reads (asked c stamp told))
+    → IfOk r (λ errand. (content : List ℕ) (stamp : ℕ) → plan_of errand content stamp ≡ asked config stamp)
+    → IfOk r (λ errand. (at : AtTake) → at.config ≡ config → at.second ≡ second → AsksAs (plan_over errand at.contents at.second) (asked at.config at.second))
+asks_so (Ok errand) config second asked reads is = λ at same stamped told.
+    ap (λ (p : Plan). p told) (is (content_of errand at.contents) at.second) ∙ reads config at.second told
+    ∙ ap (λ (c : Config). without_reads (asked c at.second told)) (sym same)
+asks_so (Err e) config second asked reads is = tt
 
 -- ---- errands on files
 -- one stat, or none, has no reads

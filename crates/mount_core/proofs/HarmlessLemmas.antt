@@ -10,12 +10,15 @@ use Rattle.mount_core.proofs.WalkLemmas.{asks_first}
 use Rattle.mount_laws.proofs.Asking.{harmless_all}
 use Rattle.mount_laws.proofs.Requests.Lookup.{asks_harmless}
 use Rattle.mount_laws.proofs.Requests.Opendir.{asks_lists}
+use Rattle.mount_laws.proofs.Requests.Rename.{harmless_moving}
+use Rattle.mount_laws.proofs.Requests.Rmdir.{rmdir_harmless}
 use Rattle.mount_model.specs.Observing.{Observed}
 use Rattle.mount_rules.specs.Laws.{Planned}
 use Rattle.mount_rules.specs.Plans.{IsHarmless, answers_of, done}
+use Rattle.object_names.specs.Paths.{dir_prefix_of}
 use Rattle.plan_files.specs.declared.errand.FileErrand.TheVariants as File
 use Rattle.plan_files.specs.declared.errand.FileErrand.TheVariants.{Attr, Source, Touch}
-use Rattle.plan_names.specs.declared.errand.NameErrand.TheVariants.{Lookup, Make, Opendir}
+use Rattle.plan_names.specs.declared.errand.NameErrand.TheVariants.{Lookup, Make, Opendir, Rename, Rmdir, Unlink}
 
 abbrev AreHarmless : List Observed → Type 0
 AreHarmless seen = AllByRecursion (λ (o : Observed). IsHarmless o.op) seen
@@ -25,6 +28,10 @@ harmless_asking Nothing second seen walked planned asks = absurd (asks refl)
 harmless_asking (Names (Lookup path suffix implicit)) second seen walked planned asks = harmless_all (plan_of (Names (Lookup path suffix implicit)) [] second) (asks_harmless implicit path suffix) seen planned
 harmless_asking (Names (Make name pairs)) second [] walked planned asks = tt
 harmless_asking (Names (Make name pairs)) second (o ∷ seen) walked planned asks = absurd (asks refl)
+harmless_asking (Names (Unlink path)) second [] walked planned asks = tt
+harmless_asking (Names (Unlink path)) second (o ∷ seen) walked planned asks = absurd (asks refl)
+harmless_asking (Names (Rmdir path)) second seen walked planned asks = rmdir_harmless (dir_prefix_of path) seen planned asks
+harmless_asking (Names (Rename from to suffix implicit)) second seen walked planned asks = harmless_moving implicit from to suffix second seen planned asks
 harmless_asking (Names (Opendir prefix page)) second seen walked planned asks = harmless_all (plan_of (Names (Opendir prefix page)) [] second) (asks_lists prefix page None) seen planned
 harmless_asking (Files (Attr name)) second [] walked planned asks = tt
 harmless_asking (Files (Attr name)) second (o ∷ seen) walked planned asks = absurd (asks refl)
@@ -54,6 +61,9 @@ Stops-listed (Names (Opendir prefix page)) second before after seen lists walked
 }
 Stops-listed (Names (Lookup path suffix implicit)) second before after seen lists walked = absurd lists
 Stops-listed (Names (Make name pairs)) second before after seen lists walked = absurd lists
+Stops-listed (Names (Unlink path)) second before after seen lists walked = absurd lists
+Stops-listed (Names (Rmdir path)) second before after seen lists walked = absurd lists
+Stops-listed (Names (Rename from to suffix implicit)) second before after seen lists walked = absurd lists
 Stops-listed (Files errand) second before after seen lists walked = absurd lists
 Stops-listed (Flush errand frozen) second before after seen lists walked = absurd lists
 Stops-listed Nothing second before after seen lists walked = absurd lists

@@ -1,5 +1,5 @@
 -- The flush of a frozen copy: it takes what the copy lacks, inserts the whole content, and may end then.
-use Rattle.std.proofs.Common.{◌≡◌, ◌≤◌, ◌<◌, ℕ, Bool, true, false, List, [], ◌∷◌, Some, length, take, drop, replicate, sym, ap, subst, ◌∙◌}
+use Rattle.std.proofs.Common.{◌≡◌, ◌≤◌, ◌<◌, ◌+◌, ℕ, Bool, true, false, List, [], ◌∷◌, Some, length, take, drop, replicate, refl, sym, ap, subst, ◌∙◌}
 use Rattle.std.proofs.Math.Seq.{drop-append_seam, take-length}
 use Rattle.std.proofs.lemmas.List.{length-replicate}
 use Rattle.std.specs.Prelude.{if◌then◌else◌, ◌++◌}
@@ -13,9 +13,9 @@ use Rattle.mount_core.proofs.WalkLemmas.{Walks-more, Walks-none}
 use Rattle.mount_core.specs.Bases.{HoldsBase}
 use Rattle.mount_core.specs.Errands.{FlushesFrozen, source_of}
 use Rattle.mount_core.specs.Stores.{Counted, most}
-use Rattle.mount_core.specs.Walks.{Stops, Walks, left_by, observed_on}
+use Rattle.mount_core.specs.Walks.{Stops, Walks, WalksAs, left_by, observed_on}
 use Rattle.mount_model.specs.Observing.{Observed}
-use Rattle.mount_rules.specs.Plans.{Contents, MayEnd, ask, asked_by}
+use Rattle.mount_rules.specs.Plans.{Contents, MayEnd, answers_of, ask, asked_by, last_moment}
 use Rattle.mount_state.specs.declared.base.Base.{Base}
 use Rattle.plan_files.specs.Errands.{plan_of, wanted_of}
 use Rattle.plan_files.specs.declared.errand.FileErrand.{FileErrand}
@@ -54,12 +54,21 @@ content_short errand frozen first bytes content is whole =
     subst (λ n. n ≤ max_content) (sym long) (is_short errand frozen is)
 
 -- ---- what it makes
-pub walks_insert : (errand : FileErrand) (content : List ℕ) (second : ℕ) (op : Operation) (before after : Counted) (seen : List Observed)
-    → plan_of errand content second [] ≡ ask op → IsAllowed op → seen ≡ observed_on before op ∷ [] → after ≡ left_by before op → before.made < most
-    → Walks (plan_of errand content second) before seen after
-walks_insert errand content second op before after seen asks may observed left few =
-    Walks-more (plan_of errand content second) before before after [] seen (Walks-none (plan_of errand content second) before)
-    (record { op = op; asked = ap asked_by asks; allowed = may; observed = observed; left = left; bounded = few })
+-- its answer and its moment are told, whatever operation is kept beside them
+pub walks_insert : (errand : FileErrand) (content : List ℕ) (second : ℕ) (op kept : Operation) (moment : ℕ) (answer : Answer) (before after : Counted) (room told : List Observed)
+    → plan_of errand content second [] ≡ ask op → IsAllowed op → room ≡ [] → told ≡ room ++ record { op = kept; moment = moment; answer = answer } ∷ []
+    → moment ≡ before.made + 1 → answer ≡ answer_to op before.bucket → after ≡ left_by before op → before.made < most
+    → WalksAs (plan_of errand content second) before told after
+walks_insert errand content second op kept moment answer before after room told asks may empty pushed at answered left few =
+    let one : told ≡ record { op = kept; moment = moment; answer = answer } ∷ [] = pushed ∙ ap (λ items. items ++ record { op = kept; moment = moment; answer = answer } ∷ []) empty in
+    record {
+      seen = observed_on before op ∷ [];
+      walked =
+          Walks-more (plan_of errand content second) before before after [] (observed_on before op ∷ []) (Walks-none (plan_of errand content second) before)
+          (record { op = op; asked = ap asked_by asks; allowed = may; observed = refl; left = left; bounded = few });
+      answers = ap answers_of one ∙ ap (λ a. a ∷ []) answered;
+      moment = ap last_moment one ∙ at;
+    }
 
 -- and then it may end: an insert is answered no bytes
 pub ends_insert : (errand : FileErrand) (frozen : FrozenFile) (content other : List ℕ) (second : ℕ) (op : Operation) (b : BucketState) (a : Answer) → FlushesFrozen errand frozen

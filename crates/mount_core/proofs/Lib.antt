@@ -1,4 +1,5 @@
 -- The lemmas that the proofs of `mount_core` cite.
+mod AnswersDecide
 mod BaseLemmas
 mod ErrandLemmas
 mod FileLemmas
@@ -8,6 +9,8 @@ mod GoneLemmas
 mod HarmlessLemmas
 mod InsertLemmas
 mod MetadataLemmas
+mod NameLemmas
+mod NamePlans
 mod PageKeys
 mod PairsInOrder
 mod SeenLemmas

@@ -6,35 +6,43 @@ use Rattle.std.specs.Option.{option_map_or}
 use Rattle.bucket_api.specs.Metadata.{KeysRise, Metadata}
 use Rattle.file_metadata.specs.FileMetadata.{last_second}
 use Rattle.fuse_requests.specs.declared.request.Request.{Request}
-use Rattle.fuse_requests.specs.declared.request.Request.TheVariants.{BatchForget, Create, Flush, Forget, Fsync, Getattr, Init, Lookup, Opendir, Opening, Release, Releasedir, Setattr, Write}
+use Rattle.fuse_requests.specs.declared.request.Request.TheVariants.{BatchForget, Create, Flush, Forget, Fsync, Getattr, Init, Lookup, Mkdir, Mknod, Opendir, Opening, Release, Releasedir, Rename, Rename2, Rmdir, Setattr, Symlink, Unlink, Write}
 use Rattle.fuse_requests.specs.declared.request.Forgotten.{Forgotten}
 use Rattle.inode_spec.proofs.Cases.{on_found, on_test}
 use Rattle.inode_spec.specs.Inodes.{forgotten, is_live, let_go, made_current, with_file}
 use Rattle.mount_core.specs.Metadatas.{GivesMetadata}
 use Rattle.mount_laws.proofs.RequestLaws.{goes}
+use Rattle.mount_laws.proofs.Requests.Rename.{on_moved}
+use Rattle.mount_laws.specs.Renames.{renamed}
 use Rattle.mount_model.specs.Observing.{Observed}
 use Rattle.mount_rules.specs.Dispatch.{goes_on, mount_after, rules_of, taken_at, view_in}
 use Rattle.mount_rules.specs.Files.{with_staged}
 use Rattle.mount_rules.specs.Making as making
 use Rattle.mount_rules.specs.Mount.{File, IsMount, MountModel, Node, NodeTable}
 use Rattle.mount_rules.specs.Plans.{answers_of, last_moment}
+use Rattle.mount_rules.specs.Removing as removing
 use Rattle.mount_rules.specs.Requests.BatchForget as batch_forget
 use Rattle.mount_rules.specs.Requests.Create as create
 use Rattle.mount_rules.specs.Requests.Flush as flush
 use Rattle.mount_rules.specs.Requests.Forget as forget
 use Rattle.mount_rules.specs.Requests.Init as init
 use Rattle.mount_rules.specs.Requests.Lookup as lookup
+use Rattle.mount_rules.specs.Requests.Mkdir as mkdir
+use Rattle.mount_rules.specs.Requests.Mknod as mknod
 use Rattle.mount_rules.specs.Requests.Open as open_file
 use Rattle.mount_rules.specs.Requests.Opendir as opendir
 use Rattle.mount_rules.specs.Requests.Release as release
+use Rattle.mount_rules.specs.Requests.Rename as rename
+use Rattle.mount_rules.specs.Requests.Rmdir as rmdir
 use Rattle.mount_rules.specs.Requests.Setattr as setattr
 use Rattle.mount_rules.specs.Requests.Setattr.{Asked, Change}
+use Rattle.mount_rules.specs.Requests.Unlink as unlink
 use Rattle.mount_rules.specs.Requests.Write as write
 use Rattle.mount_rules.specs.Rules.{AtTake, Taken}
 use Rattle.mount_rules.specs.Showing.{directory_again, file_shown, new_directory, new_node, object_again}
 use Rattle.mount_rules.specs.Standing as standing
 use Rattle.mount_rules.specs.Standing.{Standing, generation_seen, refreshed_at}
-use Rattle.mount_rules.specs.View.{Sight}
+use Rattle.mount_rules.specs.View.{Sight, View}
 use Rattle.object_names.specs.Paths.{dir_prefix_of}
 use Rattle.object_names.specs.declared.shown.DirItem.{DirItem}
 use Rattle.plan_files.specs.Errands.{IsTime}
@@ -60,6 +68,36 @@ created : (mount : MountModel) → Orders mount → (path : List ℕ) (moment : 
 created mount o path moment (making.new meta) told = record { rise = rise_put mount.table o.rise mount.table.next (new_node path meta moment) (told meta refl); times = o.times }
 created mount o path moment making.exists told = o
 created mount o path moment making.fault told = o
+
+-- a new node of an object, which is not open
+noded : (mount : MountModel) → Orders mount → (path : List ℕ) (moment : ℕ) (made : making.Made) → ((meta : Metadata) → made ≡ making.new meta → KeysRise meta.pairs)
+    → Orders (mknod.mount_after mount path moment made)
+noded mount o path moment (making.new meta) told = record { rise = rise_put mount.table o.rise mount.table.next (new_node path meta moment) (told meta refl); times = o.times }
+noded mount o path moment making.exists told = o
+noded mount o path moment making.fault told = o
+
+-- a directory, by the name of its placeholder
+directed : (mount : MountModel) → Orders mount → (prefix : List ℕ) (made : making.Made) → Orders (mkdir.mount_after mount prefix made)
+directed mount o prefix (making.new meta) = record { rise = rise_shown_or_new mount.table o.rise directory_again prefix (new_directory prefix) directory_rises tt; times = o.times }
+directed mount o prefix making.exists = o
+directed mount o prefix making.fault = o
+
+-- names without current nodes
+unnamed : (mount : MountModel) (name : List ℕ) → Orders mount → Orders (removing.without_name mount name)
+unnamed mount name o = record { rise = o.rise; times = o.times }
+
+removed : (mount : MountModel) (name : List ℕ) (came : removing.Removed) → Orders mount → Orders (removing.mount_after mount name came)
+removed mount name removing.gone o = unnamed mount name o
+removed mount name removing.nothing o = o
+removed mount name removing.fault o = o
+
+emptied : (mount : MountModel) (prefix : List ℕ) (came : rmdir.Came) → Orders mount → Orders (rmdir.mount_after mount prefix came)
+emptied mount prefix (rmdir.removed came) o = removed mount prefix came o
+emptied mount prefix rmdir.not_empty o = o
+
+moved : (names : rename.Names) (view : View) (mount : MountModel) (came : rename.Came) → Orders mount → Orders (rename.mount_after names view mount came)
+moved names view mount came o =
+    on_moved names view mount Orders o (unnamed (removing.without_name mount (rename.from_of names view)) (rename.to_of names view) (unnamed mount (rename.from_of names view) o)) came
 
 opened : (mount : MountModel) → Orders mount → (node moment : ℕ) (found : Standing) → ((meta : Metadata) → found ≡ standing.live meta → KeysRise meta.pairs)
     → Orders (open_file.mount_after node mount moment found)
@@ -173,6 +211,20 @@ orders_after (Opendir node) at mount seen early tell free o =
 orders_after (Releasedir node fh) at mount seen early tell free o = record { rise = o.rise; times = o.times }
 orders_after (Create node name) at mount seen early tell free o =
     created mount o (create.path_of name (view_in mount (Create node name))) (last_moment seen) (making.made (answers_of seen)) (made_told seen tell)
+orders_after (Mknod node mode name) at mount seen early tell free o =
+    noded mount o (create.path_of name (view_in mount (Mknod node mode name))) (last_moment seen) (making.made (answers_of seen)) (made_told seen tell)
+orders_after (Symlink node name target) at mount seen early tell free o =
+    noded mount o (create.path_of name (view_in mount (Symlink node name target))) (last_moment seen) (making.made (answers_of seen)) (made_told seen tell)
+orders_after (Mkdir node name) at mount seen early tell free o = directed mount o (mkdir.prefix_of name (view_in mount (Mkdir node name))) (making.made (answers_of seen))
+orders_after (Unlink node name) at mount seen early tell free o = removed mount (unlink.path_of name (view_in mount (Unlink node name))) (unlink.removed (answers_of seen)) o
+orders_after (Rmdir node name) at mount seen early tell free o =
+    let prefix = mkdir.prefix_of name (view_in mount (Rmdir node name)) in emptied mount prefix (rmdir.came_of prefix (answers_of seen)) o
+orders_after (Rename node newdir name newname) at mount seen early tell free o =
+    let view = view_in mount (Rename node newdir name newname) in
+    moved (renamed newdir name newname) view mount (rename.came (renamed newdir name newname) view (answers_of seen)) o
+orders_after (Rename2 node newdir flags name newname) at mount seen early tell free o =
+    let view = view_in mount (Rename2 node newdir flags name newname) in
+    moved (renamed newdir name newname) view mount (rename.came (renamed newdir name newname) view (answers_of seen)) o
 orders_after _ at mount seen early tell free o = o
 
 -- ---- call by call

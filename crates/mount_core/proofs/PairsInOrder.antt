@@ -3,9 +3,11 @@ use Rattle.std.proofs.Common.{◌≡◌, ◌+◌, ◌-◌, ℕ, Bool, true, fals
 use Rattle.std.specs.Prelude.{if◌then◌else◌, ◌==◌, option_and_then}
 use Rattle.std.specs.FinMap as fin
 use Rattle.std.specs.List.{AllByRecursion}
+use Rattle.std.specs.List.Sorted.{IsStrictlySortedBy}
 use Rattle.bucket_api.specs.Metadata.{KeysRise, Metadata}
 use Rattle.bucket_api.specs.declared.answers.Answer.{Answer}
 use Rattle.bucket_api.specs.declared.answers.Answer.TheVariants as answers
+use Rattle.bucket_api.specs.declared.objects.Pair.{Pair}
 use Rattle.inode_spec.proofs.Cases.{on_found, on_test}
 use Rattle.inode_spec.specs.Inodes.{file_of, forgotten, granted, let_go, with_file}
 use Rattle.mount_laws.proofs.Changes.{on_forgotten, on_forgotten_at, on_let_go}
@@ -22,6 +24,15 @@ use Rattle.mount_rules.specs.Showing.{Numbered, current_shown, directory_again, 
 use Rattle.mount_rules.specs.Standing as standing
 use Rattle.mount_rules.specs.Standing.{Standing, generation_seen, refreshed_at}
 use Rattle.spare_maps.proofs.FinMaps.{number_put, number_taken}
+
+-- the keys of no pairs and of one pair rise
+pub none_rise : KeysRise []
+unfolding IsStrictlySortedBy
+none_rise = tt
+
+pub one_rises : (pair : Pair) → KeysRise (pair ∷ [])
+unfolding IsStrictlySortedBy
+one_rises pair = (tt, tt)
 
 abbrev pub KeptRise : Option File → Type 0
 KeptRise None = Unit {0}

@@ -1,18 +1,26 @@
 -- What refuses a request is an errno that a reply may tell.
-use Rattle.std.proofs.Common.{◌≡◌, ◌≤◌, ◌+◌, ℕ, Bool, true, false, List, Option, Some, None, sym, subst, arith, nat_le, length, option_and_then}
-use Rattle.std.specs.Prelude.{not, ◌&&◌, if◌then◌else◌}
+use Rattle.std.proofs.Common.{◌≡◌, ◌≤◌, ◌+◌, ℕ, Bool, true, false, List, Option, Some, None, sym, subst, arith, nat_eq, nat_le, nat_lt, length, option_and_then}
+use Rattle.std.specs.Prelude.{not, ◌&&◌, ◌||◌, if◌then◌else◌}
 use Rattle.std.specs.Option.{option_map_or}
-use Rattle.fuse_replies.specs.Errno.{ebadf, efbig, einval, enametoolong, enosys, enospc, enotdir, eproto, estale}
+use Rattle.std.specs.Str.{is_utf8}
+use Rattle.fuse_replies.specs.Errno.{ebadf, ebusy, efbig, einval, enametoolong, enosys, enospc, enotdir, eproto, estale}
 use Rattle.fuse_requests.specs.declared.request.Request.{Request}
-use Rattle.fuse_requests.specs.declared.request.Request.TheVariants.{BatchForget, Create, Destroy, Flush, Forget, Fsync, Fsyncdir, Getattr, Init, Interrupt, Lookup, Opendir, Opening, Read, Readdir, Release, Releasedir, Setattr, Statfs, Unknown, Write}
+use Rattle.fuse_requests.specs.declared.request.Request.TheVariants.{BatchForget, Create, Destroy, Flush, Forget, Fsync, Fsyncdir, Getattr, Init, Interrupt, Lookup, Mkdir, Mknod, Opendir, Opening, Read, Readdir, Readlink, Release, Releasedir, Rename, Rename2, Rmdir, Setattr, Statfs, Symlink, Unknown, Unlink, Write}
 use Rattle.handle_table.specs.Handles.{Opened}
 use Rattle.bucket_api.specs.Operation.{max_content}
+use Rattle.mount_laws.specs.Renames.{renamed}
 use Rattle.mount_model.specs.declared.config.Config.{Config}
 use Rattle.mount_rules.specs.Dispatch.{early, is_among, is_full, is_init, is_silent, refused_at_take, rules_of, served_opcodes, silent_opcodes, view_in}
 use Rattle.mount_rules.specs.Guards.{entries_opened, errno_of_fault, in_directory, file_opened, is_directory, longest_read, on_file, on_live, on_open_directory, on_open_file, part_refusal, size_refusal}
 use Rattle.mount_rules.specs.Mount.{MountModel}
+use Rattle.mount_rules.specs.Requests.Create as create
+use Rattle.mount_rules.specs.Requests.Mknod as mknod
+use Rattle.mount_rules.specs.Requests.Readlink as readlink
+use Rattle.mount_rules.specs.Requests.Rename as rename
+use Rattle.mount_rules.specs.Requests.Rename.{Names}
 use Rattle.mount_rules.specs.Requests.Setattr as setattr
 use Rattle.mount_rules.specs.Requests.Setattr.{Asked}
+use Rattle.mount_rules.specs.Requests.Symlink as symlink
 use Rattle.mount_rules.specs.Requests.Write as write
 use Rattle.mount_rules.specs.View.{Sight, View, child_of}
 use Rattle.object_names.specs.Components.{name_fault}
@@ -100,9 +108,60 @@ write-told first count = by (nat_le count write.longest_write) (nat_le (first + 
     by true false = (omega arith, omega arith)
     by false inside = (omega arith, omega arith)
 
+-- of two refusals the first comes
+first-told : (first next : Option ℕ) → IsTold first → IsTold next → IsTold (option_map_or Some first next)
+first-told None next f n = n
+first-told (Some errno) next f n = f
+
+-- a type of node that is no regular file
+mknod-told : (regular : Bool) (next : Option ℕ) → IsTold next → IsTold (if regular then next else Some enosys)
+mknod-told true next tells = tells
+mknod-told false next tells = (omega arith, omega arith)
+
+-- a target that is no text, or too long
+target-told : (target : List ℕ) → IsTold (symlink.target_refusal target)
+target-told target = by (nat_eq (length target) 0 || not (is_utf8 target)) (nat_lt symlink.longest_target (length target))
+  where
+    by : (bad long : Bool) → IsTold (if bad then Some einval else if long then Some enametoolong else None)
+    by true long = (omega arith, omega arith)
+    by false true = (omega arith, omega arith)
+    by false false = tt
+
+symlink-told : (name target : List ℕ) (view : View) → IsTold (symlink.refusal name target view)
+symlink-told name target view =
+    in_directory-told view.node (symlink.texts_refusal name target)
+    (λ directory. first-told (part_refusal name directory) (symlink.target_refusal target) (part_refusal-told name directory) (target-told target))
+
+-- a node that is no symlink
+readlink-told : (kind : NodeKind) → IsTold (readlink.kind_refusal kind)
+readlink-told Symlink = tt
+readlink-told Dir = (omega arith, omega arith)
+readlink-told File = (omega arith, omega arith)
+
+-- a directory that is none, a name, and staged content
+rename-told : (names : Names) (view : View) → IsTold (rename.refusal names view)
+rename-told names view = on_live-told view.node _ (λ old. on_live-told view.directory (rename.kinds_refusal names view old) (λ new. kinds (is_directory old.kind && is_directory new.kind) old new))
+  where
+    busy : (staged : Bool) → IsTold (if staged then Some ebusy else None)
+    busy true = (omega arith, omega arith)
+    busy false = tt
+
+    told : (old new : Sight) → IsTold (rename.names_refusal names view old new)
+    told old new =
+        first-told (part_refusal (bare_name names.name) old) _ (part_refusal-told (bare_name names.name) old)
+        (first-told (part_refusal names.newname new) (rename.busy_refusal names view) (part_refusal-told names.newname new) (busy (rename.is_staged view && not (rename.is_same names view))))
+
+    kinds : (directories : Bool) (old new : Sight) → IsTold (if directories then rename.names_refusal names view old new else Some enotdir)
+    kinds true old new = told old new
+    kinds false old new = (omega arith, omega arith)
+
+rename2-told : (none : Bool) (next : Option ℕ) → IsTold next → IsTold (if none then next else Some einval)
+rename2-told true next tells = tells
+rename2-told false next tells = (omega arith, omega arith)
+
 -- a length and a time that no file can have, and a length of what is no file
 setattr-told : (asked : Asked) (kind : NodeKind) → IsTold (setattr.kind_refusal asked kind)
-setattr-told asked kind = by (setattr.sets_size asked) (limits (setattr.time_refusal asked kind) (time (setattr.is_file kind && setattr.sets_time asked && not (setattr.sets_now asked) && setattr.is_out_of_range asked)) (size (setattr.sets_size asked && not (nat_le asked.size max_content))))
+setattr-told asked kind = by (setattr.sets_size asked) (first-told (setattr.time_refusal asked kind) (setattr.size_refusal asked) (time (setattr.is_file kind && setattr.sets_time asked && not (setattr.sets_now asked) && setattr.is_out_of_range asked)) (size (setattr.sets_size asked && not (nat_le asked.size max_content))))
   where
     time : (refused : Bool) → IsTold (if refused then Some einval else None)
     time true = (omega arith, omega arith)
@@ -112,10 +171,6 @@ setattr-told asked kind = by (setattr.sets_size asked) (limits (setattr.time_ref
     size true = (omega arith, omega arith)
     size false = tt
 
-    limits : (first : Option ℕ) → IsTold first → IsTold (setattr.size_refusal asked) → IsTold (option_map_or Some first (setattr.size_refusal asked))
-    limits None f s = s
-    limits (Some errno) f s = f
-
     by : (sized : Bool) → IsTold (setattr.limits_refusal asked kind) → IsTold (if sized then on_file kind (setattr.limits_refusal asked kind) else setattr.limits_refusal asked kind)
     by true tells = on_file-told kind (setattr.limits_refusal asked kind) tells
     by false tells = tells
@@ -123,6 +178,16 @@ setattr-told asked kind = by (setattr.sets_size asked) (limits (setattr.time_ref
 refusal-told : (request : Request) (view : View) → IsTold ((rules_of request).refusal view)
 refusal-told (Lookup node name) view = in_directory-told view.node (part_refusal (bare_name name)) (part_refusal-told (bare_name name))
 refusal-told (Create node name) view = in_directory-told view.node (part_refusal name) (part_refusal-told name)
+refusal-told (Mknod node mode name) view =
+    mknod-told (mknod.is_regular mode) (create.refusal name view) (in_directory-told view.node (part_refusal name) (part_refusal-told name))
+refusal-told (Symlink node name target) view = symlink-told name target view
+refusal-told (Readlink node) view = on_live-told view.node (λ sight. readlink.kind_refusal sight.kind) (λ sight. readlink-told sight.kind)
+refusal-told (Mkdir node name) view = in_directory-told view.node (part_refusal name) (part_refusal-told name)
+refusal-told (Rmdir node name) view = in_directory-told view.node (part_refusal name) (part_refusal-told name)
+refusal-told (Unlink node name) view = in_directory-told view.node (part_refusal (bare_name name)) (part_refusal-told (bare_name name))
+refusal-told (Rename node newdir name newname) view = rename-told (renamed newdir name newname) view
+refusal-told (Rename2 node newdir flags name newname) view =
+    rename2-told (nat_eq flags 0) (rename.refusal (renamed newdir name newname) view) (rename-told (renamed newdir name newname) view)
 refusal-told (Opendir node) view = in_directory-told view.node (λ directory. None) (λ directory. tt)
 refusal-told (Readdir node fh first size) view =
     on_open_directory-told node view.handle (λ entries. size_refusal size) (λ entries. size-told (nat_le size longest_read))
@@ -145,7 +210,6 @@ refusal-told (Forget node count) view = tt
 refusal-told (BatchForget pairs) view = tt
 refusal-told Interrupt view = tt
 refusal-told (Unknown opcode) view = unread-told (is_among silent_opcodes opcode) (is_among served_opcodes opcode)
-refusal-told _ view = (omega arith, omega arith)
 
 -- what refuses a request at its take
 pub taken-told : (config : Config) (mount : MountModel) (request : Request) (errno : ℕ) → Some errno ≡ refused_at_take config mount request → (1 ≤ errno) × (errno ≤ 511)

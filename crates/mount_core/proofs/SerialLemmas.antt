@@ -21,8 +21,9 @@ use Rattle.mount_core.specs.Errands.{AsksAs, plan_over}
 use Rattle.mount_core.specs.Metadatas.{GivesMetadata}
 use Rattle.mount_core.specs.declared.errand.Errand.{Errand}
 use Rattle.mount_core.specs.Stores.{Counted, LeavesBucket}
-use Rattle.mount_core.specs.Walks.{Stops, Walks}
-use Rattle.mount_core.proofs.WalkLemmas.{Completes-asked, Observes-asked, Planned-observed, Walks-none, asks_too, ends_with}
+use Rattle.mount_core.specs.Walks.{Stops, WalksAs}
+use Rattle.mount_core.proofs.AnswersDecide.{same_mount_after, same_reply_to}
+use Rattle.mount_core.proofs.WalkLemmas.{Completes-asked, Observes-asked, Planned-observed, WalksAs-none, asks_too, ends_with}
 use Rattle.mount_core.proofs.MetadataLemmas.{gives_after}
 use Rattle.mount_core.proofs.ToldLemmas.{tell_in_order}
 use Rattle.mount_laws.proofs.Contents.{files_keep_content}
@@ -37,7 +38,7 @@ use Rattle.mount_rules.specs.Mount.{IsMount, MountModel}
 use Rattle.mount_rules.specs.Files.{FilesAreShort}
 use Rattle.mount_rules.specs.Laws.{FilesHaveContent, IsRefusedFull, StagedStandOver}
 use Rattle.mount_rules.specs.OneThread.{Call, Ending, IsLawful, RunState, after_operations, at_state, contents_of, mount_by, performed, plan_at, second_of, short, stale, state_after_call}
-use Rattle.mount_rules.specs.Plans.{Completes, Contents, Plan, Source, Step, Wanted, done, may_read, without_reads}
+use Rattle.mount_rules.specs.Plans.{Completes, Contents, MayEnd, Plan, Source, Step, Wanted, done, may_read, without_reads}
 use Rattle.mount_rules.specs.Rules.{AtTake}
 use Rattle.mount_rules.specs.View.{View}
 
@@ -100,30 +101,36 @@ module _ (before : SerialState) (request : Request) (is : IsMount before.mount) 
   is_mount run came = subst IsMount came.mount is
 
   -- walked to its end
-  pub served : (asked : Contents → Plan) (seen : List Observed) (after : Counted) (answer : Reply) (left : MountModel)
+  pub served : (asked : Contents → Plan) (told : List Observed) (after : Counted) (answer : Reply) (left : MountModel)
       → AsksAlong asked
-      → ((run : RunState) → CameTo run before → Walks (asked (contents_of run.store)) before.store seen after × Completes (asked (contents_of run.store)) seen)
-      → ((run : RunState) → CameTo run before → answer ≡ reply_to (at_run run) before.mount request seen)
-      → ((run : RunState) → CameTo run before → left ≡ mount_after (at_run run) before.mount request seen)
+      → ((run : RunState) → CameTo run before → WalksAs (asked (contents_of run.store)) before.store told after × Completes (asked (contents_of run.store)) told)
+      → ((run : RunState) → CameTo run before → answer ≡ reply_to (at_run run) before.mount request told)
+      → ((run : RunState) → CameTo run before → left ≡ mount_after (at_run run) before.mount request told)
       → ServesOne before request answer (record before { mount = left; store = after })
-  served asked_in seen after answer left asks walked answered leaves run came =
+  served asked_in told after answer left asks walks answered leaves run came =
       let asked : Plan = asked_in (contents_of run.store) in
       let same = subst (λ (m : MountModel). AsksAs asked (plan (at_run run) m request)) came.mount (asks run came) in
-      let w = (walked run came).0 run.store came.store in
+      let walk = (walks run came).0 in
+      let seen = walk.seen in
+      let w = walk.walked run.store came.store in
+      let completes : Completes asked seen = subst (λ (answers : List Answer). MayEnd (asked answers)) walk.answers (walks run came).1 in
       let lawful : IsLawful before.config run (call_of seen performed) = record {
         observed = Observes-asked asked (plan_at before.config run request) same run.store seen w.0;
-        ends = Completes-asked asked (plan_at before.config run request) same seen (walked run came).1;
+        ends = Completes-asked asked (plan_at before.config run request) same seen completes;
       } in
       let reached : record { mount = left; store = after_operations run.store seen } ≡ state_after_call before.config run (call_of seen performed) =
       ap (λ (m : MountModel). record { mount = m; store = after_operations run.store seen })
-      (leaves run came ∙ ap (λ (m : MountModel). mount_after (at_run run) m request seen) came.mount) in
+      (leaves run came ∙ same_mount_after (at_run run) before.mount request told seen walk.answers walk.moment
+      ∙ ap (λ (m : MountModel). mount_after (at_run run) m request seen) came.mount) in
       record {
         left = record { mount = left; store = after_operations run.store seen };
         performs = record {
           seen = seen;
           ending = performed;
           lawful = lawful;
-          answered = answered run came ∙ ap (λ (m : MountModel). reply_to (at_run run) m request seen) came.mount;
+          answered =
+              answered run came ∙ same_reply_to (at_run run) before.mount request told seen walk.answers walk.moment
+              ∙ ap (λ (m : MountModel). reply_to (at_run run) m request seen) came.mount;
           left = reached;
         };
         came = came_to before.config run (call_of seen performed) (is_mount run came) lawful came.store.start before came _ _ reached refl w.1;
@@ -230,7 +237,7 @@ refused : (before : SerialState) (request : Request) (errno : ℕ) → IsMount b
 refused before request errno is_mount is =
     served before request is_mount (λ contents answers. done) [] before.store (Error errno) before.mount
     (λ run came answers. ap without_reads (sym (ap (λ (p : Plan). p answers) (asks (at_state before.config run)))))
-    (λ run came. (Walks-none (λ answers. done) before.store, tt)) (λ run came. sym (answers (at_state before.config run))) (λ run came. sym (leaves (at_state before.config run)))
+    (λ run came. (WalksAs-none (λ answers. done) before.store, tt)) (λ run came. sym (answers (at_state before.config run))) (λ run came. sym (leaves (at_state before.config run)))
   where
     stops : goes_on before.mount request ≡ false
     stops = refused_stops before.mount request errno is
@@ -252,7 +259,7 @@ refused_full : (before : SerialState) (request : Request) → IsMount before.mou
     → ServesOne before request (Error enospc) before
 refused_full before request is_mount free full =
     served before request is_mount asked [] before.store (Error enospc) before.mount (λ run came answers. refl)
-    (λ run came. (Walks-none (asked (contents_of run.store)) before.store, ends_with (plan (at_state before.config run) before.mount request []) (refused_at run).ends))
+    (λ run came. (WalksAs-none (asked (contents_of run.store)) before.store, ends_with (plan (at_state before.config run) before.mount request []) (refused_at run).ends))
     (λ run came. sym (refused_at run).answered) (λ run came. sym (refused_at run).left)
   where
     asked : Contents → Plan

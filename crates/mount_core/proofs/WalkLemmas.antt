@@ -8,7 +8,7 @@ use Rattle.bucket_api.specs.Operation.{Operation, IsAllowed}
 use Rattle.bucket_api.specs.declared.answers.Answer.{Answer}
 use Rattle.bucket_api.specs.declared.events.Mode.TheVariants as modes
 use Rattle.mount_core.specs.Stores.{Counted, LeavesBucket}
-use Rattle.mount_core.specs.Walks.{MakesNext, Walks, left_by, observed_on}
+use Rattle.mount_core.specs.Walks.{MakesNext, Walks, WalksAs, left_by, observed_on}
 use Rattle.mount_core.proofs.PageKeys.{answer_told}
 use Rattle.mount_model.specs.Observing.{Observed, finish, make}
 use Rattle.mount_rules.specs.Laws.{Planned}
@@ -54,6 +54,13 @@ observed_so seen room more op moment answer before kept pushed at told =
 -- nothing was walked yet
 pub Walks-none : (plan : Plan) (before : Counted) → Walks plan before [] before
 Walks-none plan before store leaves = (tt, leaves)
+
+-- a walk of which all is told
+pub WalksAs-all : (plan : Plan) (before after : Counted) (seen : List Observed) → Walks plan before seen after → WalksAs plan before seen after
+WalksAs-all plan before after seen walked = record { seen = seen; walked = walked; answers = refl; moment = refl }
+
+pub WalksAs-none : (plan : Plan) (before : Counted) → WalksAs plan before [] before
+WalksAs-none plan before = WalksAs-all plan before before [] (Walks-none plan before)
 
 -- a walk, and the operation that the plan asks next
 pub Walks-more : (plan : Plan) (start before after : Counted) (seen more : List Observed) → Walks plan start seen before → MakesNext plan before seen after more

@@ -8,13 +8,21 @@ use Rattle.mount_core.specs.Stores.{Counted, LeavesBucket, most}
 use Rattle.mount_model.specs.Observing.{Observed}
 use Rattle.mount_rules.specs.Laws.{Planned}
 use Rattle.mount_rules.specs.OneThread.{Observes, Store, after_operations}
-use Rattle.mount_rules.specs.Plans.{IsHarmless, MayEnd, Plan, answers_of, asked_by, done}
+use Rattle.mount_rules.specs.Plans.{IsHarmless, MayEnd, Plan, answers_of, asked_by, done, last_moment}
 
 -- Whatever log led to the bucket, the plan goes on from it by these observations, and the longer log leaves what is then
 -- there.
 abbrev pub Walks : Plan → Counted → List Observed → Counted → Type 0
 Walks plan before seen after =
     (store : Store) → LeavesBucket store before → Observes plan store seen × LeavesBucket (after_operations store seen) after
+
+-- A walk, of which its answers are told and the moment of its last operation. No request looks at more of what it observed,
+-- so a content that was given away need not be kept.
+pub record WalksAs (plan : Plan) (before : Counted) (told : List Observed) (after : Counted) : Type 0 where
+  pub seen : List Observed
+  pub walked : Walks plan before seen after
+  pub answers : answers_of told ≡ answers_of seen
+  pub moment : last_moment told ≡ last_moment seen
 
 -- what an operation that is made on the bucket is answered, at its moment; and what it leaves
 abbrev pub observed_on : Counted → Operation → Observed

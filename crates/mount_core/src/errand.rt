@@ -20,7 +20,7 @@ ghost use Rattle.object_names.specs.declared.shown.DirItem.{DirItem};
 ghost use Rattle.plan_files.specs.Errands.{read_of};
 ghost use Rattle.plan_names.specs.Errands.{next_of, Asked, MayMake};
 
-use crate::{files, names};
+use crate::{files, making, names, removing};
 use bucket_api::{Answer, Op};
 use dir_listing::Listing;
 use fuse_requests::Request;
@@ -77,8 +77,38 @@ impl Errand {
             Request::Lookup { node, name } => {
                 names::look_up(alloc, config, mount, *node, name.as_slice())
             }
-            Request::Create { node, name } => names::make(alloc, mount, *node, name.as_slice()),
             Request::Opendir { node } => names::list(alloc, config, mount, *node),
+            Request::Create { node, name } | Request::Mknod { node, name, .. } => {
+                making::make_file(alloc, mount, *node, name.as_slice())
+            }
+            Request::Symlink { node, name, target } => {
+                making::make_link(alloc, mount, *node, name.as_slice(), target.as_slice())
+            }
+            Request::Mkdir { node, name } => {
+                making::make_directory(alloc, mount, *node, name.as_slice())
+            }
+            Request::Unlink { node, name } => {
+                removing::unlink(alloc, mount, *node, name.as_slice())
+            }
+            Request::Rmdir { node, name } => {
+                removing::remove_directory(alloc, mount, *node, name.as_slice())
+            }
+            Request::Rename {
+                node,
+                newdir,
+                name,
+                newname,
+            }
+            | Request::Rename2 {
+                node,
+                newdir,
+                name,
+                newname,
+                ..
+            } => {
+                let (name, newname) = (name.as_slice(), newname.as_slice());
+                removing::rename(alloc, config, mount, *node, name, *newdir, newname)
+            }
             Request::Getattr { node } | Request::Opening { node, .. } => {
                 files::ask(alloc, mount, *node)
             }

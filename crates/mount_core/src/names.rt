@@ -1,10 +1,8 @@
-//! The errands of requests on names.
-ghost use Rattle.std.specs.Prelude.{◌≡◌, ◌≤◌, ℕ, List, [], None, IfOk, IfSome};
+//! The errands of a look-up and of a listing, and the paths of names.
+ghost use Rattle.std.specs.Prelude.{◌≡◌, ◌≤◌, ℕ, List, None, IfOk, IfSome};
 ghost use Rattle.bucket_api.specs.declared.answers.Answer.{Answer};
 ghost use Rattle.mount_core.specs.Errands.{plan_of, wanted_of, HoldsEntries, IsErrand};
 ghost use Rattle.mount_rules.specs.Guards as guards;
-ghost use Rattle.mount_rules.specs.Making as making;
-ghost use Rattle.mount_rules.specs.Requests.Create as create;
 ghost use Rattle.mount_rules.specs.Requests.Lookup as lookup;
 ghost use Rattle.mount_rules.specs.Requests.Opendir as opendir;
 ghost use Rattle.mount_rules.specs.Rules.{at_node};
@@ -13,7 +11,7 @@ ghost use Rattle.object_names.specs.Paths.{has_suffix, IsPath};
 ghost use Rattle.object_names.specs.declared.shown.DirItem.{DirItem};
 
 use crate::errand::Errand;
-use io_ports::{NoMemory, Row, Text};
+use io_ports::{NoMemory, Text};
 use mount_model::Config;
 use mount_state::Mount;
 use object_names::{component_text, strip_suffix};
@@ -42,20 +40,6 @@ pub(crate) fn look_up(
     }))
 }
 
-/// CREATE: makes an empty object of the path of a name, without metadata.
-pub(crate) fn make(alloc: Global, mount: &Mount, node: u64, name: &[u8]) -> Result<Errand, NoMemory>
-    requires { create.refusal name.now (view_of mount.now.mount (at_node node)) ≡ None }
-    ensures wanted { IfOk result (λ errand. wanted_of errand ≡ None) }
-    ensures plan { IfOk result (λ errand. (content : List ℕ) (second : ℕ) → plan_of errand content second ≡ making.plan (create.path_of name.now (view_of mount.now.mount (at_node node))) [] second) }
-    ensures errand { IfOk result IsErrand }
-{
-    let name = path_of(alloc, mount, node, name)?;
-    Ok(Errand::Names(NameErrand::Make {
-        name,
-        pairs: Row::new(alloc),
-    }))
-}
-
 /// OPENDIR: lists the directory by pages.
 pub(crate) fn list(
     alloc: Global,
@@ -81,7 +65,12 @@ pub(crate) fn list(
 }
 
 /// The path of a part of a live directory.
-fn path_of(alloc: Global, mount: &Mount, node: u64, part: &[u8]) -> Result<Text, NoMemory>
+pub(crate) fn path_of(
+    alloc: Global,
+    mount: &Mount,
+    node: u64,
+    part: &[u8],
+) -> Result<Text, NoMemory>
     requires { guards.in_directory (sight_at mount.now.mount.table node) (guards.part_refusal part.now) ≡ None }
     ensures ok { IfOk result (λ path. path ≡ guards.path_in (sight_at mount.now.mount.table node) part.now) }
     ensures path { IfOk result IsPath }

@@ -3,7 +3,7 @@ ghost use Rattle.std.specs.Prelude.{◌≡◌, Bool, List, [], IfErr, IfOk, OnEr
 ghost use Rattle.bucket_api.specs.declared.answers.Answer.{Answer};
 ghost use Rattle.mount_core.specs.Bases.{HasBytes, HasRead, HoldsBase, StopsBy};
 ghost use Rattle.mount_core.specs.Errands.{plan_of, plan_over, wanted_of, HoldsEntries, IsErrand, IsWalked};
-ghost use Rattle.mount_core.specs.Walks.{Stops, Walks};
+ghost use Rattle.mount_core.specs.Walks.{Stops, Walks, WalksAs};
 ghost use Rattle.mount_rules.specs.Plans.{answers_of, Completes, Contents, CoversWanted, HoldsWanted};
 
 use crate::base::base_of;
@@ -31,7 +31,7 @@ pub(crate) fn observe(
 ) -> Result<(Row<Observation>, Base), Stopped>
     requires errand { IsErrand errand }
     requires bytes { HasBytes store.old.bucket (wanted_of errand) }
-    ensures ok { IfOk result (λ came. (contents : Contents) → HoldsWanted contents (wanted_of errand) came.1.first came.1.bytes → Walks (plan_over errand contents second) store.old came.0.items store.new) }
+    ensures ok { IfOk result (λ came. (contents : Contents) → HoldsWanted contents (wanted_of errand) came.1.first came.1.bytes → WalksAs (plan_over errand contents second) store.old came.0.items store.new) }
     ensures completes { IfOk result (λ came. (contents : Contents) → Completes (plan_over errand contents second) came.0.items) }
     ensures entries { IfOk result (λ came. HoldsEntries errand implicit (answers_of came.0.items) spare.new.items) }
     ensures base { IfOk result (λ came. HasRead store.old.bucket (wanted_of errand) came.1) }
@@ -57,7 +57,7 @@ fn carry_out(
 ) -> Result<Seen, NoMemory>
     requires errand { IsErrand errand }
     requires base { CoversWanted (wanted_of errand) base.now.first (length base.now.bytes) }
-    ensures ok { IfOk result (λ seen. (contents : Contents) → HoldsBase contents (wanted_of errand) base.now → Walks (plan_over errand contents second) store.old seen.items store.new) }
+    ensures ok { IfOk result (λ seen. (contents : Contents) → HoldsBase contents (wanted_of errand) base.now → WalksAs (plan_over errand contents second) store.old seen.items store.new) }
     ensures completes { IfOk result (λ seen. (contents : Contents) → Completes (plan_over errand contents second) seen.items) }
     ensures entries { IfOk result (λ seen. HoldsEntries errand implicit (answers_of seen.items) spare.new.items) }
     ensures provided { spare.new.provided ≡ spare.old.provided }

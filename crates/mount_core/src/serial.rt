@@ -4,6 +4,8 @@ ghost use Rattle.bucket_api.specs.BucketState.{IsWithin};
 ghost use Rattle.fuse_replies.specs.Replies.{IsSendable, without_spare as reply_without_spare};
 ghost use Rattle.fuse_requests.specs.Grammar.{without_spare};
 ghost use Rattle.mount_core.specs.Serials.{first_serial, ServesOne};
+ghost use Rattle.mount_laws.specs.Removals.{RmdirsEmpty};
+ghost use Rattle.mount_laws.specs.Renames.{RenamesMove, RenamesStop};
 ghost use Rattle.mount_model.specs.Configs.{IsConfig};
 ghost use Rattle.mount_rules.specs.Dispatch.{early, is_full};
 ghost use Rattle.mount_rules.specs.Laws.{CountsDecide, FlushesAreGuarded, NumbersRise, ReadsAreOfContent, ShortAreOutOfMemory, StagingIsBounded, WritesPatch};
@@ -57,7 +59,9 @@ impl Serial {
         // What any list of calls then comes to: a node is live while the kernel holds look-ups of it, numbers are given
         // once, and the calls answered ENOMEM are those that stopped short; bytes that are read are those of the file's
         // content, bytes that are written stand in it, staged contents never touch more blocks than there are, and a
-        // flush makes one new generation of what is staged only where the one that the file shows is live.
+        // flush makes one new generation of what is staged only where the one that the file shows is live. A RENAME moves
+        // its object, whole, or leaves the bucket as it was, and where it stops short at most its copy stands beside the
+        // object; an RMDIR removes a directory that is empty.
         ensures counts { OnOk result CountsDecide }
         ensures numbers { OnOk result NumbersRise }
         ensures short { OnOk result ShortAreOutOfMemory }
@@ -65,6 +69,9 @@ impl Serial {
         ensures writes { OnOk result WritesPatch }
         ensures bounded { OnOk result StagingIsBounded }
         ensures flushes { OnOk result FlushesAreGuarded }
+        ensures renames { OnOk result RenamesMove }
+        ensures stops { OnOk result RenamesStop }
+        ensures removals { OnOk result RmdirsEmpty }
     {
         Ok(Serial {
             config: *config,

@@ -2,12 +2,12 @@
 ghost use Rattle.std.specs.Prelude.{◌≡◌, ◌<◌, ◌≤◌, ◌+◌, ◌^◌, IfOk, OnOk, OnErr};
 ghost use Rattle.bucket_api.specs.BucketState.{BucketState, IsBucket, IsWithin};
 ghost use Rattle.bucket_api.specs.BucketStep.{answer_to, state_after};
-ghost use Rattle.bucket_api.specs.Operation.{operation, IsAllowed};
+ghost use Rattle.bucket_api.specs.Operation.{insert, operation, IsAllowed};
 ghost use Rattle.mount_core.specs.Stores.{most};
 
-use bucket_api::{Answer, Op};
+use bucket_api::{Answer, Op, Pair};
 use bucket_plain::Plain;
-use io_ports::NoMemory;
+use io_ports::{Bytes, NoMemory, Row, Text};
 use std::alloc::Global;
 use std::marker::Model;
 
@@ -58,6 +58,35 @@ impl Store {
         let answer = self.bucket.apply(alloc, op)?;
         self.made += 1;
         Ok((self.made, answer))
+    }
+
+    /// Makes an insert of these parts, whose content is moved into the bucket: its moment and its answer, as for `make`.
+    /// `NoMemory` where memory for the answer or the object was refused, or once 2^48 operations were made; then nothing was
+    /// made, and the content is let go.
+    pub(crate) fn insert(
+        &mut self,
+        alloc: Global,
+        name: &Text,
+        content: Bytes,
+        pairs: &Row<Pair>,
+        only: Option<u64>,
+        stamp: u64,
+    ) -> Result<(u64, Answer), NoMemory>
+        requires may { IsAllowed (insert name.now content pairs.now.items only stamp) }
+        ensures ok { IfOk result (λ made. (made.0 ≡ self.old.made + 1) × (made.1 ≡ answer_to (insert name.now content pairs.now.items only stamp) self.old.bucket)) }
+        ensures after { OnOk result (self.new ≡ record { bucket = state_after (insert name.now content pairs.now.items only stamp) self.old.bucket; made = self.old.made + 1 }) }
+        ensures bounded { OnOk result (self.old.made < most) }
+        ensures err { OnErr result (self.new ≡ self.old) }
+    {
+        if self.made >= MOST_OPERATIONS {
+            return Err(NoMemory);
+        }
+        let answer = self
+            .bucket
+            .insert(alloc, name, content, pairs, only, stamp)?;
+        let moment = self.made + 1;
+        self.made = moment;
+        Ok((moment, answer))
     }
 
     /// What the bucket, as it stands, answers an operation that changes nothing. It is not counted. `NoMemory` where memory

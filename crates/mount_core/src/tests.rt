@@ -1,15 +1,22 @@
 //! Names, directories and handles on a mount over a bucket that holds objects. What is expected comes from outside: errno
 //! numbers of Linux, modes of `stat`, types and lengths of directory entries of fuse.h and dirent.h, and what gcsfuse shows
 //! of such objects.
+mod ask;
 mod beside;
+mod naming;
 mod staged;
 mod steps;
+mod told;
 
 ghost use Rattle.std.specs.Prelude.{◌<◌, ◌+◌, ◌^◌, IfOk, OnOk};
 ghost use Rattle.bucket_api.specs.BucketState.{IsWithin};
 ghost use Rattle.bucket_api.specs.Metadata.{KeysRise};
 
 use crate::Serial;
+use ask::Ask::{
+    BatchForget, Create, Destroy, Forget, Fsyncdir, Getattr, Init, Lookup, Open, Opendir, Read,
+    Readdir, Release, Releasedir, Statfs,
+};
 use beside::Act::{Play, Replace};
 use bucket_api::{Op, Pair, allowed};
 use bucket_plain::Plain;
@@ -19,14 +26,10 @@ use staged::acts_over;
 use std::alloc::Global;
 use std::process::Abort;
 use std::test::Fail;
-use steps::Ask::{
-    BatchForget, Create, Destroy, Forget, Fsyncdir, Getattr, Init, Lookup, Open, Opendir, Read,
-    Readdir, Release, Releasedir, Statfs,
-};
-use steps::Told::{
+use steps::{Step, plays};
+use told::Told::{
     Agreed, Attr, Content, Directory, Done, Entries, Errno, File, Made, Opened, Silence, Sizes,
 };
-use steps::{Step, plays};
 
 /// Puts an object of five bytes, stamped with the second 7.
 fn put<R: Abort + AllocGlobal>(
@@ -74,7 +77,7 @@ pub(crate) fn holding<R: Abort + AllocGlobal>(rt: &R, names: &[&str]) -> Result<
 }
 
 /// Plays steps on a new mount, over a bucket that holds these objects and is listed by one key a page.
-fn plays_over<R: Abort + AllocGlobal>(
+pub(crate) fn plays_over<R: Abort + AllocGlobal>(
     rt: &R,
     implicit_dirs: bool,
     names: &[&str],

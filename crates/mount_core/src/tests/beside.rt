@@ -23,6 +23,10 @@ pub(crate) enum Act<'a> {
     Remove,
     /// It has this generation and content.
     Holds(u64, &'a str),
+    /// The object of this name has this content.
+    Stands(&'a str, &'a str),
+    /// No object of this name is live.
+    Lacks(&'a str),
 }
 
 /// Does one after the other.
@@ -44,7 +48,15 @@ fn does<R: Abort + AllocGlobal>(rt: &R, mount: &mut Serial, one: Act<'_>) -> Res
         Act::Replace(content) => replace(rt, mount, content),
         Act::Remove => remove(rt, mount),
         Act::Holds(generation, content) => {
-            assert!(rt; holds(rt, mount, generation, content)?);
+            assert!(rt; holds(rt, mount, "f", generation, content)?);
+            Ok(())
+        }
+        Act::Stands(name, content) => {
+            assert!(rt; stands(rt, mount, name, content)?);
+            Ok(())
+        }
+        Act::Lacks(name) => {
+            assert!(rt; lacks(rt, mount, name)?);
             Ok(())
         }
     }
@@ -74,14 +86,36 @@ fn make(alloc: Global, mount: &mut Serial, op: &Op) -> Result<(), NoMemory>
     Ok(())
 }
 
-/// The object `f` has this generation and content.
+/// The object of a name has this content.
+fn stands<R: Abort + AllocGlobal>(
+    rt: &R,
+    mount: &mut Serial,
+    name: &str,
+    content: &str,
+) -> Result<bool, NoMemory> {
+    let op = stat_of(rt, name)?;
+    match mount.store.look(rt.alloc(), &op)? {
+        Answer::Meta(meta) => holds(rt, mount, name, meta.generation, content),
+        _ => Ok(false),
+    }
+}
+
+/// No object of a name is live.
+fn lacks<R: Abort + AllocGlobal>(rt: &R, mount: &mut Serial, name: &str) -> Result<bool, NoMemory> {
+    let op = stat_of(rt, name)?;
+    let answer = mount.store.look(rt.alloc(), &op)?;
+    Ok(matches!(answer, Answer::NotFound))
+}
+
+/// The object of a name has this generation and content.
 fn holds<R: Abort + AllocGlobal>(
     rt: &R,
     mount: &mut Serial,
+    name: &str,
     generation: u64,
     content: &str,
 ) -> Result<bool, NoMemory> {
-    let op = read_of(rt, generation)?;
+    let op = read_of(rt, name, generation)?;
     let answer = mount.store.look(rt.alloc(), &op)?;
     Ok(shows(&answer, content))
 }
@@ -120,14 +154,25 @@ fn delete_of<R: Abort + AllocGlobal>(rt: &R) -> Result<Op, NoMemory>
     })
 }
 
-/// The read of all bytes of a generation of `f`.
-fn read_of<R: Abort + AllocGlobal>(rt: &R, generation: u64) -> Result<Op, NoMemory>
+/// The stat of a name.
+fn stat_of<R: Abort + AllocGlobal>(rt: &R, name: &str) -> Result<Op, NoMemory>
     ensures may { IfOk result (λ op. IsAllowed (operation op)) }
     ensures quiet { IfOk result (λ op. (b : BucketState) → state_after (operation op) b ≡ b) }
 {
-    assert!(rt; allowed("f"));
+    assert!(rt; allowed(name));
+    Ok(Op::Stat {
+        name: Text::of(rt.alloc(), name)?,
+    })
+}
+
+/// The read of all bytes of a generation of a name.
+fn read_of<R: Abort + AllocGlobal>(rt: &R, name: &str, generation: u64) -> Result<Op, NoMemory>
+    ensures may { IfOk result (λ op. IsAllowed (operation op)) }
+    ensures quiet { IfOk result (λ op. (b : BucketState) → state_after (operation op) b ≡ b) }
+{
+    assert!(rt; allowed(name));
     Ok(Op::Read {
-        name: Text::of(rt.alloc(), "f")?,
+        name: Text::of(rt.alloc(), name)?,
         generation,
         first: 0,
         count: 100,

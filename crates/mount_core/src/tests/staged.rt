@@ -1,14 +1,14 @@
 //! Staged content on a mount: writes, lengths, times and flushes. What is expected comes from outside: errno numbers of
 //! Linux, what POSIX says of `pwrite` and `ftruncate`, and what gcsfuse keeps of a file's time.
 use crate::Serial;
+use crate::tests::ask::Ask::{
+    Create, Flush, Forget, Fsync, Getattr, Init, Lookup, Open, Read, Release, Resize, Touch, Write,
+};
 use crate::tests::beside::Act::{Holds, Play, Remove, Replace};
 use crate::tests::beside::{Act, acts};
 use crate::tests::holding;
-use crate::tests::steps::Ask::{
-    Create, Flush, Forget, Fsync, Getattr, Init, Lookup, Open, Read, Release, Resize, Touch, Write,
-};
 use crate::tests::steps::Step;
-use crate::tests::steps::Told::{
+use crate::tests::told::Told::{
     Agreed, Attr, Content, Done, Errno, File, Made, Opened, Shown, Silence, Wrote,
 };
 use io_ports::NoMemory;

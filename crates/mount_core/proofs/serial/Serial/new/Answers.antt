@@ -5,6 +5,8 @@ use Rattle.mount_core.specs.Serials.{CameTo}
 use Rattle.mount_core.specs.Stores.{Counted}
 use Rattle.mount_laws.proofs.Guarded.{flushes_are_guarded}
 use Rattle.mount_laws.proofs.Readings.{reads_are_of_content}
+use Rattle.mount_laws.proofs.Removals.{rmdirs_empty}
+use Rattle.mount_laws.proofs.Renamed.{renames_move, renames_stop}
 use Rattle.mount_laws.proofs.RunLaws.{counts_decide, numbers_rise, short_are_out_of_memory}
 use Rattle.mount_laws.proofs.Settled.{staging_is_bounded}
 use Rattle.mount_laws.proofs.Writings.{writes_patch}
@@ -47,3 +49,12 @@ returns-clause-bounded c = staging_is_bounded
 
 pub returns-clause-flushes : goal.returns-clause-flushes
 returns-clause-flushes c = flushes_are_guarded
+
+pub returns-clause-renames : goal.returns-clause-renames
+returns-clause-renames c = renames_move
+
+pub returns-clause-stops : goal.returns-clause-stops
+returns-clause-stops c = renames_stop
+
+pub returns-clause-removals : goal.returns-clause-removals
+returns-clause-removals c = rmdirs_empty
