@@ -1,0 +1,43 @@
+-- Looks at names: the operations by which a call learns what stands under a name, and when what it learns may be used.
+use Rattle.std.specs.Prelude.{◌≡◌, ◌≢◌, ℕ, ◌<◌, false, List, ◌++◌, Contains, map, Some, None, ◌⊎◌}
+use Rattle.bucket_api.specs.BucketState.{BucketState, object_at}
+use Rattle.bucket_api.specs.Log.{event_at, state_at}
+use Rattle.bucket_api.specs.LogEvent.{LogEvent}
+use Rattle.bucket_api.specs.Moments.{position_of}
+use Rattle.bucket_api.specs.Operation.{Operation, stat, list}
+use Rattle.history_spec.specs.Account.{Item, looked}
+use Rattle.history_spec.specs.JournalState.{EndedCall, JournalState, OpenCall}
+
+-- An operation that looks a name up: a stat, or the probe of an implicit directory, which asks for one name at most.
+abbrev pub IsLook : Operation → Type 0
+IsLook (stat name) = Unit {0}
+IsLook (list prefix slash max after) = (slash ≡ false) × (max ≡ 1) × (after ≡ None)
+IsLook op = ⊥
+
+-- the event at a moment really changed what stands under a name: an object was made, changed or removed
+abbrev pub Changes : BucketState → List LogEvent → ℕ → List ℕ → Type 0
+Changes start log moment name = object_at (state_at start log moment) name ≢ object_at (state_at start log (position_of moment)) name
+
+-- the lanes in which the mount has taken calls
+abbrev pub lanes_of : JournalState → List ℕ
+lanes_of state = map (λ (o : OpenCall). o.call.lane) state.opened ++ map (λ (e : EndedCall). e.call.lane) state.ended
+
+-- the event at a moment is this call's, made since its take; or that of a call that was done before its take
+abbrev pub IsKnownTo : OpenCall → ℕ → LogEvent → Type 0
+IsKnownTo o moment event = ((event.lane ≡ o.call.lane) × (o.front < moment)) ⊎ ((e : EndedCall) × Contains o.before e × Contains e.own moment)
+
+-- What a call sees by a stat of its own is settled: whatever the mount's calls had changed under that name by then is its
+-- own change, or one of a call that was done before its take. A probe by a list may show what is still under way.
+abbrev pub IsSettled : BucketState → List LogEvent → JournalState → OpenCall → ℕ → Operation → Type 0
+IsSettled start log state o moment (stat name) =
+    (m : ℕ) (event : LogEvent) → m < moment → event_at log m ≡ Some event → Contains (lanes_of state) event.lane → Changes start log m name → IsKnownTo o m event
+IsSettled start log state o moment op = Unit {0}
+
+-- what an item of the call tells is settled
+abbrev pub TellsSettled : BucketState → List LogEvent → JournalState → OpenCall → Item → Type 0
+TellsSettled start log state o (looked moment kept) = (event : LogEvent) → event_at log moment ≡ Some event → IsSettled start log state o moment event.op
+TellsSettled start log state o item = Unit {0}
+
+-- A record may serve a look. No mount keeps records yet, so none may.
+abbrev pub MayRecall : OpenCall → Operation → ℕ → Type 0
+MayRecall o op moment = ⊥
