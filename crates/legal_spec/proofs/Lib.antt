@@ -1,0 +1,7 @@
+-- Lemmas on legal histories.
+pub mod CompleteLaws
+pub mod MadeLaws
+pub mod Merging
+pub mod PhaseLaws
+pub mod PromiseLaws
+pub mod TextLaws
