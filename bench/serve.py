@@ -3,10 +3,10 @@
 
 Usage: bench/serve.py PROGRAM [RUNS]    (PROGRAM: the built program, as crates/gcsmount/out/gcsmount)
 
-For each stream, and for one of half as many frames, it prints the least time of RUNS runs (default 5), the ratio to
-`cat` of the same bytes into a file, and the ratio of the whole stream to the half. Bytes are those of the stream, or of
-the replies where these are more. Then it prints the most memory that the program held while one file was flushed few
-times and many times.
+For each stream, and for one of half as many frames, it prints the least time of RUNS runs (default 5), the frames a
+second, and the ratio to `cat` of the same bytes into a file; then the ratio of the whole stream to the half, and the most
+memory that the program held over the whole. Bytes are those of the stream, or of the replies where these are more. At
+last it prints the most memory that the program held while one file was flushed few times and many times.
 """
 import os
 import struct
@@ -15,7 +15,8 @@ import sys
 import tempfile
 import time
 
-LOOKUP, GETATTR, OPEN, READ, WRITE, STATFS, RELEASE = 1, 3, 14, 15, 16, 17, 18
+LOOKUP, GETATTR, MKDIR, UNLINK, RMDIR, RENAME = 1, 3, 9, 10, 11, 12
+OPEN, READ, WRITE, STATFS, RELEASE = 14, 15, 16, 17, 18
 FLUSH, INIT, OPENDIR, READDIR, CREATE = 25, 26, 27, 28, 35
 LONGEST_WRITE = 131072
 LONGEST_READ = 1048576
@@ -34,8 +35,20 @@ def statfs_stream(count):
     return init() + b"".join(frame(STATFS, 2 + n, 1) for n in range(count))
 
 
-def create(unique, name):
-    return frame(CREATE, unique, 1, struct.pack("<IIII", 0, 0o100644, 0, 0) + name + b"\0")
+def create(unique, name, directory=1):
+    return frame(CREATE, unique, directory, struct.pack("<IIII", 0, 0o100644, 0, 0) + name + b"\0")
+
+
+def mkdir(unique, name):
+    return frame(MKDIR, unique, 1, struct.pack("<II", 0o755, 0) + name + b"\0")
+
+
+def unlink(unique, name, directory=1):
+    return frame(UNLINK, unique, directory, name + b"\0")
+
+
+def rename(unique, name, newname, directory=1):
+    return frame(RENAME, unique, directory, struct.pack("<Q", directory) + name + b"\0" + newname + b"\0")
 
 
 def create_stream(count):
@@ -58,6 +71,30 @@ def open_stream(count):
         for n in range(count // 2)
     )
     return init() + create(2, b"f") + b"".join(pairs)
+
+
+def metadata_stream(count):
+    """Makes a file, looks it up, asks for its attributes and removes it, again and again."""
+    files = (
+        create(2, b"f") + frame(LOOKUP, 3, 1, b"f\0") + frame(GETATTR, 4, 2 + n, bytes(16)) + unlink(5, b"f")
+        for n in range(count // 4)
+    )
+    return init() + b"".join(files)
+
+
+def rename_stream(count):
+    """Makes so many files, and then renames each."""
+    names = [b"%d" % n for n in range(count // 2)]
+    return init() + b"".join(create(2, b"f" + n) for n in names) + b"".join(rename(3, b"f" + n, b"g" + n) for n in names)
+
+
+def directory_stream(count):
+    """Makes a directory, makes, renames and removes files in it, and removes it."""
+    names = [b"%d" % n for n in range(count // 3)]
+    made = b"".join(create(3, b"f" + n, 2) for n in names)
+    renamed = b"".join(rename(4, b"f" + n, b"g" + n, 2) for n in names)
+    removed = b"".join(unlink(5, b"g" + n, 2) for n in names)
+    return init() + mkdir(2, b"d") + made + renamed + removed + frame(RMDIR, 6, 1, b"d\0")
 
 
 def listing_stream(count):
@@ -92,11 +129,16 @@ def write_stream(count):
     return init() + b"".join(create(2, b"f%d" % n) + filled(2 + n, 1 + n, 15 << 20) for n in files)
 
 
-def read_stream(count):
-    """Reads one file of 16 MiB, 1 MiB at a time, over and over."""
-    places = (n * LONGEST_READ % (1 << 24) for n in range(count))
-    reads = (read(4, 2, 1, place, LONGEST_READ) for place in places)
+def read_stream(count, size=LONGEST_READ):
+    """Reads one file of 16 MiB, so many bytes at a time, over and over."""
+    places = (n * size % (1 << 24) for n in range(count))
+    reads = (read(4, 2, 1, place, size) for place in places)
     return init() + create(2, b"f") + filled(2, 1, 1 << 24) + b"".join(reads)
+
+
+def small_read_stream(count):
+    """Reads one file of 16 MiB, 4 KiB at a time, over and over."""
+    return read_stream(count, 4096)
 
 
 def small_file_stream(count):
@@ -132,17 +174,28 @@ def copied(stream, program, runs):
         return least(["cat"], longer, runs)
 
 
+def frames_in(stream):
+    """How many frames a stream has."""
+    place, frames = 0, 0
+    while place < len(stream):
+        place += struct.unpack_from("<I", stream, place)[0]
+        frames += 1
+    return frames
+
+
 def measure(name, make, count, program, runs):
     times = []
-    for frames in (count // 2, count):
+    for number in (count // 2, count):
+        made = make(number)
         with tempfile.NamedTemporaryFile() as stream:
-            stream.write(make(frames))
+            stream.write(made)
             stream.flush()
             served = least([program, "serve"], stream.name, runs)
             ratio = served / copied(stream.name, program, runs)
         times.append(served)
-        print(f"{name}, {frames}: {served:.3f} s, {ratio:.1f} times cat")
+        print(f"{name}, {number}: {served:.3f} s, {frames_in(made) / served:,.0f} frames a second, {ratio:.1f} times cat")
     print(f"{name}: twice as many take {times[1] / times[0]:.2f} times as long")
+    most_memory(name, make, count, program)
 
 
 def held(pid):
@@ -169,11 +222,15 @@ def main():
     measure("STATFS", statfs_stream, 500_000, program, runs)
     measure("WRITE of 128 KiB, a FLUSH each 15 MiB", write_stream, 480, program, runs)
     measure("READ of 1 MiB", read_stream, 1024, program, runs)
+    measure("READ of 4 KiB", small_read_stream, 50_000, program, runs)
     measure("CREATE, WRITE of 4 KiB and FLUSH", small_file_stream, 15_000, program, runs)
     measure("LOOKUP", lookup_stream, 200_000, program, runs)
     measure("GETATTR", getattr_stream, 200_000, program, runs)
     measure("OPEN and RELEASE", open_stream, 200_000, program, runs)
     measure("CREATE", create_stream, 200_000, program, runs)
+    measure("CREATE, LOOKUP, GETATTR and UNLINK", metadata_stream, 200_000, program, runs)
+    measure("CREATE, then RENAME", rename_stream, 200_000, program, runs)
+    measure("MKDIR, then CREATE, RENAME and UNLINK in it, then RMDIR", directory_stream, 150_000, program, runs)
     measure("CREATE, OPENDIR and READDIR", listing_stream, 20_000, program, runs)
     for flushes in (10, 10_000):
         most_memory("FLUSH of 1 MiB", flush_stream, flushes, program)
