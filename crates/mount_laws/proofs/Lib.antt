@@ -1,4 +1,5 @@
 -- The laws of the requests and of runs, for the crates above.
+pub mod Answered
 pub mod Asking
 pub mod Calls
 pub mod Changes
@@ -33,6 +34,7 @@ pub mod Settled
 pub mod Showings
 pub mod Sights
 pub mod Sound
+pub mod SourceReads
 pub mod Sources
 pub mod StagedChanges
 pub mod StagedContents
@@ -42,5 +44,6 @@ pub mod Staying
 pub mod Stores
 pub mod Tables
 pub mod Telling
+pub mod WantedReads
 pub mod Wanting
 pub mod Writings

@@ -194,7 +194,7 @@ asks_at_most at mount request seen most is = by (goes_on mount request)
 
 -- ---- what is wanted of sources
 -- a WRITE that is refused for want of blocks wants nothing
-wanted_where : (full : Bool) (found : Option Wanted) (wanted : Wanted) → (if full then None else found) ≡ Some wanted → found ≡ Some wanted
+pub wanted_where : (full : Bool) (found : Option Wanted) (wanted : Wanted) → (if full then None else found) ≡ Some wanted → found ≡ Some wanted
 wanted_where true found wanted e = absurd (no_Some e)
 wanted_where false found wanted e = e
 

@@ -5,12 +5,13 @@ use Rattle.std.proofs.lemmas.Bool.Decides.{nat_tests}
 use Rattle.std.specs.Prelude.{if◌then◌else◌}
 use Rattle.std.specs.FinMap as fin
 use Rattle.std.specs.Option.{option_map_or}
+use Rattle.bucket_api.specs.Operation.{read}
 use Rattle.mount_rules.specs.Files.{overlay_of}
 use Rattle.mount_rules.specs.Guards.{is_directory}
 use Rattle.mount_rules.specs.Laws.{IsOfFile}
 use Rattle.mount_rules.specs.Mount.{File, IsKeptOf, IsMount, IsStagedAt, MountModel, Node}
-use Rattle.mount_rules.specs.Plans.{Wanted}
-use Rattle.mount_rules.specs.Reading.{wanting}
+use Rattle.mount_rules.specs.Plans.{IsReadOf, Wanted}
+use Rattle.mount_rules.specs.Reading.{source_of, wanting}
 use Rattle.mount_rules.specs.View.{Sight, sight_at}
 use Rattle.object_names.specs.declared.shown.NodeKind.{NodeKind}
 use Rattle.object_names.specs.declared.shown.NodeKind.TheVariants.{Dir, File as RegularFile, Symlink}
@@ -121,3 +122,20 @@ module _ (mount : MountModel) (number : ℕ) (sight : Sight) (seen : sight_at mo
               some = one;
               inside = omega (arith, below, low, sized);
             })
+
+    -- and it may be read
+    pub IsReadOf-within : (staged : Option StagedContent) → fin.get mount.staged number ≡ staged
+        → (range : Range) → (1 ≤ range.count → IsWithin range (overlay_of staged sight).limit)
+        → (wanted : Wanted) → wanting sight.name sight.source range ≡ Some wanted
+        → IsReadOf (source_of sight) (read wanted.name wanted.generation wanted.range.first wanted.range.count)
+    IsReadOf-within staged found range within wanted = by (nat_lt 0 range.count) refl
+      where
+        by : (b : Bool) → nat_lt 0 range.count ≡ b
+            → (if b then Some (record { name = sight.name; generation = sight.source; range = range }) else None) ≡ Some wanted
+            → IsReadOf (source_of sight) (read wanted.name wanted.generation wanted.range.first wanted.range.count)
+        by false none e = absurd (no_Some e)
+        by true any e =
+            let one : 1 ≤ range.count = grind (arith, nat_tests, any) in
+            let below = within one in
+            let low = limit_low staged found in
+            subst (λ (w : Wanted). IsReadOf (source_of sight) (read w.name w.generation w.range.first w.range.count)) (same_Some e) (refl, refl, omega (arith, below, low))

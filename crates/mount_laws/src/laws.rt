@@ -1,6 +1,7 @@
 //! The laws, as clauses of three functions that do nothing.
 ghost use Rattle.mount_laws.specs.Flushes.{FlushesOwn, FlushesProtect};
 ghost use Rattle.mount_laws.specs.Listings.{PagesAreFull};
+ghost use Rattle.mount_laws.specs.Observations.{AnswersTell, ReadsArePassedOver, UnreadIsRefused, WantedMayBeRead};
 ghost use Rattle.mount_laws.specs.Parents.{ParentsAreClaimed, ParentsProtect};
 ghost use Rattle.mount_laws.specs.Removals.{RmdirsEmpty};
 ghost use Rattle.mount_laws.specs.Renames.{RenamesMove, RenamesProtect, RenamesStop};
@@ -13,8 +14,9 @@ ghost use Rattle.mount_rules.specs.Overlap.{OpenCallsSee};
 /// node of that; that its claims cover what it asks; that it is never answered
 /// ENOMEM where it is performed to its end; that nothing it made is an insert, an update or a delete while it still asks;
 /// how much it asks at most; that what it wants of a source lies in a file that is there, and may be read before anything
-/// else; that one which is answered an error changes nothing that is staged; and that a WRITE without enough blocks is
-/// answered ENOSPC, and leaves the mount as it was.
+/// else, where a read that is given bytes is passed over, and one that is given none ends it; that what it comes to is told
+/// by its answers and the last moment alone; that one which is answered an error changes nothing that is staged; and that a
+/// WRITE without enough blocks is answered ENOSPC, and leaves the mount as it was.
 pub fn request_laws()
     ensures mounts { laws.StaysMount }
     ensures leaves { laws.LeavesOthers }
@@ -30,6 +32,10 @@ pub fn request_laws()
     ensures bounded { laws.AsksAtMost }
     ensures reads { laws.MayReadWanted }
     ensures sources { laws.WantsOfFiles }
+    ensures allowed { WantedMayBeRead }
+    ensures passed { ReadsArePassedOver }
+    ensures unread { UnreadIsRefused }
+    ensures told { AnswersTell }
     ensures refused { laws.RefusedKeepsStaged }
     ensures full { laws.FullIsRefused }
 {}

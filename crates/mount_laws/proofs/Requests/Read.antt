@@ -62,7 +62,7 @@ reads_first view of_sight wanted = by view.node
 
 -- ---- what it wants
 module _ (first size : ℕ) where
-  within : (sight : Sight) (staged : Option StagedContent) → 1 ≤ (reading.wanted_range staged first size sight).count
+  pub within : (sight : Sight) (staged : Option StagedContent) → 1 ≤ (reading.wanted_range staged first size sight).count
       → IsWithin (reading.wanted_range staged first size sight) (overlay_of staged sight).limit
   within sight None some = omega (arith, some)
   within sight (Some s) some = read_within (touched_by s.overlay) s.overlay.limit first (reading.asked first size s.overlay.size).count

@@ -102,7 +102,7 @@ module _ (at : AtTake) (mount : MountModel) (node fh first : ℕ) (bytes : List 
       (λ file seen. Keeps-staged (owns_node node ∷ []) mount node (inl (refl, refl)) _)
 
 -- ---- what it wants
-within : (first count : ℕ) (file : Sight) (staged : Option StagedContent) → IsWithin (write.wanted_range staged first count file) (overlay_of staged file).limit
+pub within : (first count : ℕ) (file : Sight) (staged : Option StagedContent) → IsWithin (write.wanted_range staged first count file) (overlay_of staged file).limit
 within first count file staged = write_within (touched_by (overlay_of staged file)) (overlay_of staged file).limit first count
 
 of_file : (node first : ℕ) (bytes : List ℕ) (mount : MountModel) → IsMount mount → (wanted : Wanted)

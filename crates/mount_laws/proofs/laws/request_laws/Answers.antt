@@ -1,8 +1,11 @@
 -- The laws of requests.
 use Rattle.mount_laws.proofs.RequestLaws.{stays_mount, leaves_others, claims_protect, claims_cover, never_out_of_memory, harmless_while_asking, asks_at_most, may_read_wanted, wants_of_files}
+use Rattle.mount_laws.proofs.Answered.{answers_tell}
 use Rattle.mount_laws.proofs.FlushLaws.{flushes_own, flushes_protect}
 use Rattle.mount_laws.proofs.Refusals.{full_is_refused, refused_keeps_staged}
 use Rattle.mount_laws.proofs.ParentLaws.{parents_are_claimed, parents_protect}
+use Rattle.mount_laws.proofs.SourceReads.{reads_are_passed_over, unread_is_refused}
+use Rattle.mount_laws.proofs.WantedReads.{wanted_may_be_read}
 use Rattle.mount_laws.proofs.RenameLaws.{renames_protect}
 use Rattle.mount_laws.proofs.laws.request_laws.Goals as goal
 
@@ -53,3 +56,15 @@ returns-clause-refused c = refused_keeps_staged
 
 pub returns-clause-full : goal.returns-clause-full
 returns-clause-full c = full_is_refused
+
+pub returns-clause-told : goal.returns-clause-told
+returns-clause-told c = answers_tell
+
+pub returns-clause-passed : goal.returns-clause-passed
+returns-clause-passed c = reads_are_passed_over
+
+pub returns-clause-unread : goal.returns-clause-unread
+returns-clause-unread c = unread_is_refused
+
+pub returns-clause-allowed : goal.returns-clause-allowed
+returns-clause-allowed c = wanted_may_be_read
