@@ -1,6 +1,5 @@
 //! What came of an errand on a file, as a value.
 ghost use Rattle.std.specs.Prelude.{◌≡◌};
-ghost use Rattle.mount_rules.specs.Plans.{answers_of};
 ghost use Rattle.mount_rules.specs.Reading as reading;
 ghost use Rattle.mount_rules.specs.Requests.Flush as flush;
 ghost use Rattle.mount_rules.specs.Requests.Setattr as setattr;
@@ -9,7 +8,6 @@ ghost use Rattle.plan_files.specs.Outcomes.{as_came, as_reads, as_standing};
 
 use bucket_api::{Answer, Meta};
 use io_ports::Row;
-use mount_model::Observation;
 
 /// How the generation stands that a node shows.
 #[derive(Drop)]
@@ -46,15 +44,15 @@ pub enum Came {
     Fault,
 }
 
-/// How a generation stands, by what was observed. It takes no memory.
-pub fn outcome_of_stat(generation: u64, seen: Row<Observation>) -> Standing
-    ensures { as_standing result ≡ standing.standing generation (answers_of seen.items) }
+/// How a generation stands, by what a stat was answered, where one was made. It takes no memory.
+pub fn outcome_of_stat(generation: u64, answers: Row<Answer>) -> Standing
+    ensures { as_standing result ≡ standing.standing generation answers.items }
 {
-    let mut seen = seen.into_vec();
-    if seen.is_empty() {
+    let mut answers = answers.into_vec();
+    if answers.is_empty() {
         return Standing::Unasked;
     }
-    standing_by(generation, seen.swap_remove(0).answer)
+    standing_by(generation, answers.swap_remove(0))
 }
 
 /// How a generation stands, by the answer to the stat.
@@ -68,12 +66,12 @@ fn standing_by(generation: u64, answer: Answer) -> Standing
     }
 }
 
-/// What the reads came to that observed this.
-pub fn outcome_of_reads(seen: &[Observation]) -> Reads
-    ensures { as_reads result ≡ reading.reads (answers_of seen.now) }
+/// What the reads came to that were answered so.
+pub fn outcome_of_reads(answers: &[Answer]) -> Reads
+    ensures { as_reads result ≡ reading.reads answers.now }
 {
-    for observed in seen {
-        match observed.answer {
+    for answer in answers {
+        match answer {
             Answer::Bytes(_) => {},
             Answer::NotFound => return Reads::Gone,
             _ => return Reads::Failed,
@@ -82,15 +80,15 @@ pub fn outcome_of_reads(seen: &[Observation]) -> Reads
     Reads::Given
 }
 
-/// How a generation stands, by the answer to its update. It takes no memory.
-pub fn outcome_of_update(seen: Row<Observation>) -> Standing
-    ensures { as_standing result ≡ setattr.standing_of (answers_of seen.items) }
+/// How a generation stands, by what its update was answered, where one was made. It takes no memory.
+pub fn outcome_of_update(answers: Row<Answer>) -> Standing
+    ensures { as_standing result ≡ setattr.standing_of answers.items }
 {
-    let mut seen = seen.into_vec();
-    if seen.is_empty() {
+    let mut answers = answers.into_vec();
+    if answers.is_empty() {
         return Standing::Unasked;
     }
-    updated_by(seen.swap_remove(0).answer)
+    updated_by(answers.swap_remove(0))
 }
 
 /// How a generation stands, by the answer to its update.
@@ -104,16 +102,11 @@ fn updated_by(answer: Answer) -> Standing
     }
 }
 
-/// What came of the flush that observed this: reads of the source, and then the insert. It takes no memory.
-pub fn outcome_of_flush(seen: Row<Observation>) -> Came
-    ensures { as_came result ≡ flush.came_of (answers_of seen.items) }
+/// What came of the flush that was answered so: reads of the source, and then the insert. It takes no memory.
+pub fn outcome_of_flush(answers: Row<Answer>) -> Came
+    ensures { as_came result ≡ flush.came_of answers.items }
 {
-    for observed in seen.into_vec() {
-        let Observation {
-            op: _,
-            moment: _,
-            answer,
-        } = observed;
+    for answer in answers.into_vec() {
         match answer {
             Answer::Bytes(_) => {},
             Answer::Meta(meta) => return Came::Made(meta),

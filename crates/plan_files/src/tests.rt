@@ -10,7 +10,7 @@ use crate::{
 };
 use bucket_api::{Answer, Meta, Op, Pair, allowed};
 use io_ports::{Bytes, NoMemory, Row, Text};
-use mount_model::{Next, Observation};
+use mount_model::Next;
 use staged_file::Wanted;
 use std::alloc::Global;
 use std::process::Abort;
@@ -152,19 +152,12 @@ fn bytes(alloc: Global) -> Result<Answer, NoMemory> {
     Ok(Answer::Bytes(Bytes::of(alloc, b"el")?))
 }
 
-/// That an operation on `f` was answered so.
-fn observed(alloc: Global, answer: Answer) -> Result<Row<Observation>, NoMemory> {
-    let op = Op::Stat {
-        name: Text::of(alloc, "f")?,
-    };
-    let mut seen = Row::new(alloc);
-    seen.reserve(1)?;
-    seen.push(Observation {
-        op,
-        moment: 1,
-        answer,
-    });
-    Ok(seen)
+/// One answer.
+fn answered(alloc: Global, answer: Answer) -> Result<Row<Answer>, NoMemory> {
+    let mut answers = Row::new(alloc);
+    answers.reserve(1)?;
+    answers.push(answer);
+    Ok(answers)
 }
 
 #[test]
@@ -290,7 +283,7 @@ fn a_time_takes_the_place_of_the_one_that_was_set(rt: HostRuntime) -> Result<(),
 
 /// Whether generation 3 is live, by the answer to the stat: 1 where it is, 0 where it isn't, 5 where the bucket failed.
 fn stands(alloc: Global, answer: Answer) -> Result<u64, NoMemory> {
-    match outcome_of_stat(3, observed(alloc, answer)?) {
+    match outcome_of_stat(3, answered(alloc, answer)?) {
         Standing::Live(meta) => Ok(meta.metageneration),
         Standing::Gone => Ok(0),
         Standing::Fault => Ok(5),
@@ -304,9 +297,8 @@ fn a_generation_is_live_under_its_own_number_alone(rt: HostRuntime) -> Result<()
     assert_eq!(rt; stands(rt.alloc(), object(rt.alloc(), 4)?)?, 0);
     assert_eq!(rt; stands(rt.alloc(), Answer::NotFound)?, 0);
     assert_eq!(rt; stands(rt.alloc(), Answer::Fault)?, 5);
-    let read = observed(rt.alloc(), bytes(rt.alloc())?)?;
-    assert_eq!(rt; outcome_of_reads(read.as_slice()), Reads::Given);
-    let gone = observed(rt.alloc(), Answer::NotFound)?;
-    assert_eq!(rt; outcome_of_reads(gone.as_slice()), Reads::Gone);
+    let read = [bytes(rt.alloc())?];
+    assert_eq!(rt; outcome_of_reads(&read), Reads::Given);
+    assert_eq!(rt; outcome_of_reads(&[Answer::NotFound]), Reads::Gone);
     Ok(())
 }

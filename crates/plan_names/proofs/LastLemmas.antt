@@ -1,7 +1,5 @@
 -- What stands last in a list.
-use Rattle.std.proofs.Common.{◌≡◌, ◌-◌, List, [], ◌∷◌, length, slice_get, Some, None, refl, sym, ap, ◌∙◌, arith}
-use Rattle.mount_model.specs.Observing.{Observed}
-use Rattle.mount_rules.specs.Plans.{last_moment}
+use Rattle.std.proofs.Common.{◌≡◌, ◌-◌, List, [], ◌∷◌, length, slice_get, Some, refl, sym, ap, ◌∙◌, arith}
 
 -- the last of a list that is not empty
 abbrev pub last_of : {X : Type 0} → X → List X → X
@@ -18,20 +16,3 @@ last_of-get x (y ∷ more) =
 -- what `last` gives of a list that is not empty
 pub last_is : {X : Type 0} (x : X) (xs : List X) (y : X) → Some y ≡ slice_get (x ∷ xs) (length (x ∷ xs) - 1) → last_of x xs ≡ y
 last_is x xs y was = let e = last_of-get x xs in cc
-
--- nothing is last in the empty list alone
-pub none_last : {X : Type 0} (xs : List X) → None ≡ slice_get xs (length xs - 1) → xs ≡ []
-none_last [] was = refl
-none_last (x ∷ xs) was = let e = last_of-get x xs in cc
-
-moment_of : (o : Observed) (more : List Observed) → last_moment (o ∷ more) ≡ (last_of o more).moment
-moment_of o [] = refl
-moment_of o (p ∷ more) = moment_of p more
-
--- the moment of what was observed last
-pub moment_last : (seen : List Observed) (o : Observed) → Some o ≡ slice_get seen (length seen - 1) → o.moment ≡ last_moment seen
-moment_last [] o was = cc
-moment_last (p ∷ more) o was = ap (λ (q : Observed). q.moment) (sym (last_is p more o was)) ∙ sym (moment_of p more)
-
-pub moment_none : (seen : List Observed) → None ≡ slice_get seen (length seen - 1) → 0 ≡ last_moment seen
-moment_none seen was = ap last_moment (sym (none_last seen was))

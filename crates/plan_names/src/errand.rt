@@ -4,7 +4,10 @@ ghost use Rattle.mount_model.specs.Observing.{next_step};
 ghost use Rattle.mount_rules.specs.Plans.{done};
 ghost use Rattle.plan_names.specs.Errands.{plan_of, errno_of, next_of, IsErrand, Asked, MayMake};
 
-use crate::{listing, lookup, making, removing, renaming};
+use crate::{
+    listing, lookup, making, outcome_of_rename, outcome_of_rmdir, outcome_of_unlink, removing,
+    renaming,
+};
 use bucket_api::{Answer, Pair};
 use io_ports::{NoMemory, Row, Text};
 use mount_model::Next;
@@ -100,9 +103,9 @@ pub fn errno(errand: &NameErrand, answers: &[Answer]) -> u32
     match errand {
         NameErrand::Lookup { .. } => lookup::errno(answers),
         NameErrand::Make { .. } => making::errno(answers),
-        NameErrand::Unlink { .. } => removing::errno_of_unlink(answers),
-        NameErrand::Rmdir { path } => removing::errno_of_rmdir(path, answers),
-        NameErrand::Rename { .. } => renaming::errno(answers),
+        NameErrand::Unlink { .. } => outcome_of_unlink(answers).errno(),
+        NameErrand::Rmdir { path } => outcome_of_rmdir(path.as_str(), answers).errno(),
+        NameErrand::Rename { .. } => outcome_of_rename(answers).errno(),
         NameErrand::Opendir { .. } => listing::errno(answers),
     }
 }

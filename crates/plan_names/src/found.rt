@@ -1,7 +1,6 @@
 //! What came of an errand on names, as a value.
 ghost use Rattle.std.specs.Prelude.{◌≡◌};
 ghost use Rattle.mount_rules.specs.Making as making;
-ghost use Rattle.mount_rules.specs.Plans.{answers_of, last_moment};
 ghost use Rattle.mount_rules.specs.Requests.Lookup as lookup;
 ghost use Rattle.plan_names.specs.Outcomes.{as_found, as_made};
 ghost use Rattle.plan_names.specs.Telling.{told};
@@ -9,7 +8,6 @@ ghost use Rattle.plan_names.specs.Telling.{told};
 use crate::lookup::{Probed, probe_outcome};
 use bucket_api::{Answer, Meta};
 use io_ports::Row;
-use mount_model::Observation;
 
 /// What a look-up found.
 #[derive(Drop)]
@@ -35,16 +33,16 @@ pub enum Made {
     Fault,
 }
 
-/// What a look-up found that observed this. It takes no memory.
-pub fn outcome_of_lookup(seen: Row<Observation>) -> Found
-    ensures { as_found result ≡ lookup.found (answers_of seen.items) }
+/// What a look-up found that was answered so. It takes no memory.
+pub fn outcome_of_lookup(answers: Row<Answer>) -> Found
+    ensures { as_found result ≡ lookup.found answers.items }
 {
-    let mut seen = seen.into_vec();
-    if seen.len() >= 2 {
-        return found_at(seen.swap_remove(1).answer);
+    let mut answers = answers.into_vec();
+    if answers.len() >= 2 {
+        return found_at(answers.swap_remove(1));
     }
-    match seen.pop() {
-        Some(probe) => found_by(probe_outcome(&probe.answer)),
+    match answers.pop() {
+        Some(probe) => found_by(probe_outcome(&probe)),
         None => Found::Fault,
     }
 }
@@ -71,15 +69,15 @@ fn found_at(answer: Answer) -> Found
     }
 }
 
-/// What came of making an object that observed this. It takes no memory.
-pub fn outcome_of_insert(seen: Row<Observation>) -> Made
-    ensures { as_made result ≡ making.made (answers_of seen.items) }
+/// What came of making an object that was answered so. It takes no memory.
+pub fn outcome_of_insert(answers: Row<Answer>) -> Made
+    ensures { as_made result ≡ making.made answers.items }
 {
-    let mut seen = seen.into_vec();
-    if seen.is_empty() {
+    let mut answers = answers.into_vec();
+    if answers.is_empty() {
         return Made::Fault;
     }
-    made_by(seen.swap_remove(0).answer)
+    made_by(answers.swap_remove(0))
 }
 
 /// What came of the insert.
@@ -90,15 +88,5 @@ fn made_by(answer: Answer) -> Made
         Answer::Meta(meta) => Made::New(meta),
         Answer::Precondition { .. } => Made::Exists,
         _ => Made::Fault,
-    }
-}
-
-/// The moment of the last operation that was made, 0 where none was.
-pub fn last_moment(seen: &Row<Observation>) -> u64
-    ensures { result ≡ last_moment seen.now.items }
-{
-    match seen.as_slice().last() {
-        Some(observed) => observed.moment,
-        None => 0,
     }
 }

@@ -13,6 +13,6 @@ mod renaming;
 mod tests;
 
 pub use errand::{NameErrand, errno, next_op};
-pub use found::{Found, Made, last_moment, outcome_of_insert, outcome_of_lookup};
+pub use found::{Found, Made, outcome_of_insert, outcome_of_lookup};
 pub use removing::{Emptied, Removed, outcome_of_rmdir, outcome_of_unlink};
 pub use renaming::{Moved, outcome_of_rename};

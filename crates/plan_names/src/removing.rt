@@ -5,7 +5,7 @@ ghost use Rattle.std.specs.Str.{bytes_eq};
 ghost use Rattle.bucket_api.specs.Operation.{delete as delete_of};
 ghost use Rattle.bucket_api.specs.PageData.{PageData};
 ghost use Rattle.mount_model.specs.Observing.{next_step};
-ghost use Rattle.mount_rules.specs.Plans.{answers_of, ask, done};
+ghost use Rattle.mount_rules.specs.Plans.{ask, done};
 ghost use Rattle.mount_rules.specs.Removing as spec;
 ghost use Rattle.mount_rules.specs.Requests.Opendir.{page_in};
 ghost use Rattle.mount_rules.specs.Requests.Rmdir as rmdir;
@@ -17,8 +17,8 @@ ghost use Rattle.plan_names.specs.Outcomes.{as_emptied, as_inside, as_removed};
 
 use bucket_api::{Answer, Meta, Op};
 use fuse_replies::errno::{EIO, ENOENT, ENOTEMPTY};
-use io_ports::{NoMemory, Row, Text};
-use mount_model::{Next, Observation};
+use io_ports::{NoMemory, Text};
+use mount_model::Next;
 use object_names::dir_prefix;
 use std::alloc::Global;
 
@@ -219,47 +219,25 @@ impl Emptied {
     }
 }
 
-/// What removing the object of a path came to that observed this.
-pub fn outcome_of_unlink(seen: &Row<Observation>) -> Removed
-    ensures { as_removed result ≡ unlink.removed (answers_of seen.now.items) }
+/// What removing the object of a path came to that was answered so.
+pub fn outcome_of_unlink(answers: &[Answer]) -> Removed
+    ensures { as_removed result ≡ unlink.removed answers.now }
 {
-    match seen.as_slice() {
-        [observed, ..] => removed_by(&observed.answer),
+    match answers {
+        [answer, ..] => removed_by(answer),
         [] => Removed::Fault,
     }
 }
 
-/// What removing the empty directory of a path came to that observed this.
-pub fn outcome_of_rmdir(path: &str, seen: &Row<Observation>) -> Emptied
+/// What removing the empty directory of a path came to that was answered so.
+pub fn outcome_of_rmdir(path: &str, answers: &[Answer]) -> Emptied
     requires { IsPath path.now }
-    ensures { as_emptied result ≡ rmdir.came_of (dir_prefix_of path.now) (answers_of seen.now.items) }
+    ensures { as_emptied result ≡ rmdir.came_of (dir_prefix_of path.now) answers.now }
 {
-    match seen.as_slice() {
+    match answers {
         [] => Emptied::Removed(Removed::Fault),
-        [listed] => emptied_by(path, &listed.answer),
-        [_, deleted, ..] => Emptied::Removed(removed_by(&deleted.answer)),
-    }
-}
-
-/// The error of removing an object that was answered so.
-pub(crate) fn errno_of_unlink(answers: &[Answer]) -> u32
-    ensures { result ≡ spec.errno_of (unlink.removed answers.now) }
-{
-    match answers {
-        [answer, ..] => removed_by(answer).errno(),
-        [] => EIO,
-    }
-}
-
-/// The error of removing the empty directory of a path that was answered so.
-pub(crate) fn errno_of_rmdir(path: &Text, answers: &[Answer]) -> u32
-    requires { IsPath path.now }
-    ensures { result ≡ rmdir.errno_of (rmdir.came_of (dir_prefix_of path.now) answers.now) }
-{
-    match answers {
-        [] => EIO,
-        [listed] => emptied_by(path.as_str(), listed).errno(),
-        [_, answer, ..] => removed_by(answer).errno(),
+        [listed] => emptied_by(path, listed),
+        [_, deleted, ..] => Emptied::Removed(removed_by(deleted)),
     }
 }
 

@@ -2,7 +2,7 @@
 ghost use Rattle.std.specs.Prelude.{◌≡◌, ◌≢◌, Some, IfOk, OnErr};
 ghost use Rattle.bucket_api.specs.Names.{IsObjectName};
 ghost use Rattle.mount_model.specs.Observing.{next_step};
-ghost use Rattle.mount_rules.specs.Plans.{answers_of, done};
+ghost use Rattle.mount_rules.specs.Plans.{done};
 ghost use Rattle.mount_rules.specs.Requests.Rename as spec;
 ghost use Rattle.object_names.specs.Paths.{IsPath};
 ghost use Rattle.plan_names.specs.Errands.{next_of, MayMake};
@@ -13,8 +13,8 @@ use crate::lookup;
 use crate::lookup::{Probed, probe_outcome};
 use bucket_api::{Answer, Op};
 use fuse_replies::errno::{EIO, ENOENT, ENOSYS, ESTALE};
-use io_ports::{NoMemory, Row, Text};
-use mount_model::{Next, Observation};
+use io_ports::{NoMemory, Text};
+use mount_model::Next;
 use std::alloc::Global;
 
 /// What came of moving an object.
@@ -92,31 +92,17 @@ fn delete(alloc: Global, from: &Text, told: &Answer, copied: &Answer) -> Result<
     }))
 }
 
-/// What moving an object to another name came to that observed this.
-pub fn outcome_of_rename(seen: &Row<Observation>) -> Moved
-    ensures { as_moved result ≡ spec.came_of (answers_of seen.now.items) }
+/// What moving an object to another name came to that was answered so.
+pub fn outcome_of_rename(answers: &[Answer]) -> Moved
+    ensures { as_moved result ≡ spec.came_of answers.now }
 {
-    match seen.as_slice() {
+    match answers {
         [] => Moved::Fault,
-        [probe] => moved_by_probe(probe_outcome(&probe.answer)),
-        [_, told] => moved_by_stat(&told.answer),
-        [_, _, copied] => moved_by_copy(&copied.answer),
-        [_, _, _, deleted, ..] => moved_by_delete(&deleted.answer),
-    }
-}
-
-/// The error of moving an object that was answered so.
-pub(crate) fn errno(answers: &[Answer]) -> u32
-    ensures { result ≡ spec.errno_of (spec.came_of answers.now) }
-{
-    let moved = match answers {
-        [] => return EIO,
         [probe] => moved_by_probe(probe_outcome(probe)),
         [_, told] => moved_by_stat(told),
         [_, _, copied] => moved_by_copy(copied),
         [_, _, _, deleted, ..] => moved_by_delete(deleted),
-    };
-    moved.errno()
+    }
 }
 
 /// What moving an object came to that the probe ended.

@@ -10,12 +10,12 @@ ghost use Rattle.object_names.specs.Paths.{IsPath, IsPrefix};
 ghost use Rattle.plan_names.specs.Errands.{plan_of, Asked, IsErrand};
 
 use crate::{
-    Emptied, Found, Made, Moved, NameErrand, Removed, errno, last_moment, next_op,
-    outcome_of_insert, outcome_of_lookup, outcome_of_rename, outcome_of_rmdir, outcome_of_unlink,
+    Emptied, Found, Made, Moved, NameErrand, Removed, errno, next_op, outcome_of_insert,
+    outcome_of_lookup, outcome_of_rename, outcome_of_rmdir, outcome_of_unlink,
 };
 use bucket_api::{Answer, Meta, Op, Page};
 use io_ports::{NoMemory, Row, Text};
-use mount_model::{Next, Observation};
+use mount_model::Next;
 use object_names::{Component, dir_prefix, join};
 use std::alloc::Global;
 use std::process::Abort;
@@ -419,23 +419,13 @@ fn ends_where_nothing_can_be_moved(rt: HostRuntime) -> Result<(), Fail> {
     Ok(())
 }
 
-/// What was observed, with these answers at the moments 4 and 9.
-fn seen(alloc: Global, first: Answer, second: Answer) -> Result<Row<Observation>, NoMemory> {
-    let mut seen = Row::new(alloc);
-    seen.reserve(2)?;
-    seen.push(observed(alloc, 4, first)?);
-    seen.push(observed(alloc, 9, second)?);
-    Ok(seen)
-}
-
-/// What was observed by one operation.
-fn observed(alloc: Global, moment: u64, answer: Answer) -> Result<Observation, NoMemory> {
-    let name = Text::of(alloc, "a/b")?;
-    Ok(Observation {
-        op: Op::Stat { name },
-        moment,
-        answer,
-    })
+/// Two answers.
+fn both(alloc: Global, first: Answer, second: Answer) -> Result<Row<Answer>, NoMemory> {
+    let mut answers = Row::new(alloc);
+    answers.reserve(2)?;
+    answers.push(first);
+    answers.push(second);
+    Ok(answers)
 }
 
 /// What was found, as a letter.
@@ -459,29 +449,25 @@ fn made(made: Made) -> char {
 
 #[test]
 fn tells_what_came_of_it(rt: HostRuntime) -> Result<(), Fail> {
-    let both = seen(rt.alloc(), Answer::Done, Answer::NotFound)?;
-    assert_eq!(rt; last_moment(&both), 9);
-    assert_eq!(rt; found(outcome_of_lookup(both)), '-');
+    let absent = both(rt.alloc(), Answer::Done, Answer::NotFound)?;
+    assert_eq!(rt; found(outcome_of_lookup(absent)), '-');
     assert_eq!(rt; found(outcome_of_lookup(Row::new(rt.alloc()))), '!');
-    let both = seen(rt.alloc(), Answer::Fault, Answer::Done)?;
-    assert_eq!(rt; made(outcome_of_insert(both)), '!');
+    let failed = both(rt.alloc(), Answer::Fault, Answer::Done)?;
+    assert_eq!(rt; made(outcome_of_insert(failed)), '!');
     Ok(())
 }
 
 #[test]
 fn tells_what_was_removed_or_moved(rt: HostRuntime) -> Result<(), Fail> {
-    let both = seen(rt.alloc(), Answer::NotFound, Answer::Done)?;
+    let answers = [Answer::NotFound, Answer::Done];
     let path = path(rt.alloc())?;
-    assert_eq!(rt; outcome_of_unlink(&both), Removed::Nothing);
+    assert_eq!(rt; outcome_of_unlink(&answers), Removed::Nothing);
     assert_eq!(rt;
-        outcome_of_rmdir(path.as_str(), &both),
+        outcome_of_rmdir(path.as_str(), &answers),
         Emptied::Removed(Removed::Gone)
     );
-    assert_eq!(rt; outcome_of_rename(&both), Moved::Fault);
-    let filled = Answer::Page(page_of(rt.alloc(), "a/b/c")?);
-    let mut listed = Row::new(rt.alloc());
-    listed.reserve(1)?;
-    listed.push(observed(rt.alloc(), 4, filled)?);
-    assert_eq!(rt; outcome_of_rmdir(path.as_str(), &listed), Emptied::NotEmpty);
+    assert_eq!(rt; outcome_of_rename(&answers), Moved::Fault);
+    let filled = [Answer::Page(page_of(rt.alloc(), "a/b/c")?)];
+    assert_eq!(rt; outcome_of_rmdir(path.as_str(), &filled), Emptied::NotEmpty);
     Ok(())
 }

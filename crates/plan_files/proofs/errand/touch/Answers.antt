@@ -1,8 +1,7 @@
 -- The keys of no pairs rise, and so do those of the time's pair.
-use Rattle.std.proofs.Common.{rules, ◌≡◌, List, [], subst, sym}
+use Rattle.std.proofs.Common.{rules, [], subst, sym}
 use Rattle.std.specs.List.Sorted.{IsStrictlySortedBy}
 use Rattle.bucket_api.specs.Metadata.{KeysRise}
-use Rattle.bucket_api.specs.declared.objects.Pair.{Pair}
 use Rattle.plan_files.proofs.errand.touch.Goals as goal
 
 no_keys : KeysRise []

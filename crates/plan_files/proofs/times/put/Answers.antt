@@ -1,5 +1,5 @@
 -- The pair stands before the first one above it, in the place of its equal, or behind what is below.
-use Rattle.std.proofs.Common.{◌≡◌, ◌++◌, List, length, ap, sym, ◌∙◌, arith}
+use Rattle.std.proofs.Common.{◌++◌, List, length, ap, sym, ◌∙◌, arith}
 use Rattle.std.proofs.lemmas.Result.{on_ok_weaker}
 use Rattle.bucket_api.specs.declared.objects.Pair.{Pair}
 use Rattle.plan_files.proofs.PairLemmas.{put_before, put_behind, put_in_place}

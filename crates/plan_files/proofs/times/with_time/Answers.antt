@@ -1,9 +1,8 @@
 -- Keys that rise still do with one more among them.
-use Rattle.std.proofs.Common.{rules, ◌≡◌, List, subst, sym}
+use Rattle.std.proofs.Common.{rules, ◌≡◌, subst, sym}
 use Rattle.bucket_api.proofs.BucketLaws.{KeysRise-with_pair}
 use Rattle.bucket_api.specs.BucketStep.{with_pair}
 use Rattle.bucket_api.specs.Metadata.{KeysRise}
-use Rattle.bucket_api.specs.declared.objects.Pair.{Pair}
 use Rattle.plan_files.proofs.times.with_time.Goals as goal
 
 pub returns-clause-rise : goal.returns-clause-rise
