@@ -3,10 +3,9 @@ use Rattle.std.proofs.Common.{◌≡◌, ℕ, ◌+◌, ◌-◌, ◌≤◌, Bool,
 use Rattle.std.proofs.lemmas.Bool.Decides.{nat_tests}
 use Rattle.std.proofs.lemmas.List.{length-append}
 use Rattle.std.proofs.lemmas.List.Concat.{flat_map-cons}
-use Rattle.std.proofs.lemmas.List.Folds.{list_all-map}
 use Rattle.std.specs.Prelude.{if◌then◌else◌, not, ◌&&◌, option_and_then}
 use Rattle.std.specs.FinMap as fin
-use Rattle.std.specs.List.{flat_map, list_all}
+use Rattle.std.specs.List.{flat_map}
 use Rattle.std.specs.Option.{option_map_or}
 use Rattle.fuse_replies.specs.Errno.{ebadf, einval, eproto}
 use Rattle.fuse_replies.specs.Layouts.{dirent_len, dirent_text, dirents_text}
@@ -15,12 +14,9 @@ use Rattle.fuse_replies.proofs.TextLemmas.{length-dirent_text}
 use Rattle.fuse_requests.specs.declared.request.Request.{Request}
 use Rattle.fuse_requests.specs.declared.request.Request.TheVariants.{Readdir}
 use Rattle.handle_table.specs.Handles.{Opened}
-use Rattle.mount_model.specs.Observing.{Observed}
 use Rattle.mount_rules.specs.Dispatch.{early, is_init, is_silent, rules_of, view_in}
 use Rattle.mount_rules.specs.Guards.{entries_opened, on_open_directory}
 use Rattle.mount_rules.specs.Mount.{MountModel}
-use Rattle.mount_rules.specs.Plans.{answers_of}
-use Rattle.mount_rules.specs.Requests.Opendir.{is_page}
 use Rattle.mount_rules.specs.Requests.Readdir as readdir
 use Rattle.mount_rules.specs.Guards.{longest_read, size_refusal}
 use Rattle.mount_rules.specs.Requests.Readdir.{dirent_at, fitting}
@@ -82,7 +78,3 @@ sendable_entries mount request node fh first size provided items is free for_it 
         let same : items ≡ fitting first size rest = ap entries_of (sym held ∙ for_it) in
         let long : length (dirents_text items) ≡ length (dirents_text (fitting first size rest)) = ap (λ d. length (dirents_text d)) same in
         omega (arith, short, few, long)
-
--- the answers of what was observed are pages where each is one
-pub pages_observed : (seen : List Observed) → list_all is_page (answers_of seen) ≡ list_all (λ (o : Observed). is_page o.answer) seen
-pages_observed seen = list_all-map is_page (λ (o : Observed). o.answer) seen

@@ -17,4 +17,5 @@ pub mod ShowingLaws
 pub mod StagedLaws
 pub mod StagedReads
 pub mod TargetLaws
+pub mod ToldLaws
 pub mod WriteLaws

@@ -1,21 +1,8 @@
--- A range of bytes that is moved to the front, and what a base shows of a source.
-use Rattle.std.proofs.Common.{◌≡◌, ℕ, ◌+◌, ◌-◌, ◌≤◌, min, List, ◌++◌, length, take, drop, sym, ap, ◌∙◌, arith}
-use Rattle.std.proofs.lemmas.List.{drop-take, drop-drop, length-drop, take-append-le, take-take, take_min, take_rest}
-use Rattle.std.specs.List.{copy_within}
+-- What a base shows of a source.
+use Rattle.std.proofs.Common.{◌≡◌, ℕ, ◌+◌, ◌-◌, ◌≤◌, List, length, take, drop, sym, ap, ◌∙◌, arith}
+use Rattle.std.proofs.lemmas.List.{drop-take, drop-drop, take-take}
 use Rattle.staging_spec.specs.Slices.{Covers, Holds}
 use Rattle.staging_spec.specs.Wanted.{Range}
-
--- bytes from a place on are moved to the front, and so many are kept
-pub shifted : (bytes : List ℕ) (skip count : ℕ) → skip ≤ length bytes
-    → take (min count (length bytes - skip)) (copy_within bytes skip (length bytes) 0) ≡ take count (drop skip bytes)
-shifted bytes skip count inside =
-    ap (λ n. take (min count (length bytes - skip)) (take (length bytes - skip) (drop skip bytes) ++ drop n bytes)) (let none : 0 + (length bytes - skip) ≡ length bytes - skip = omega arith in none)
-    ∙ ap (λ r. take (min count (length bytes - skip)) (r ++ drop (length bytes - skip) bytes)) (take_rest bytes skip)
-    ∙ take-append-le (min count (length bytes - skip)) (drop skip bytes) (drop (length bytes - skip) bytes) (let l = length-drop skip bytes in omega (arith, l))
-    ∙ kept
-  where
-    kept : take (min count (length bytes - skip)) (drop skip bytes) ≡ take count (drop skip bytes)
-    kept = ap (λ n. take (min count n) (drop skip bytes)) (sym (length-drop skip bytes)) ∙ take_min count (drop skip bytes)
 
 -- a base that covers a range of the source shows the bytes of the source there
 pub shows_source : (source : List ℕ) (first : ℕ) (bytes : List ℕ) (range : Range) → 1 ≤ range.count → Holds source first bytes → Covers first (length bytes) range

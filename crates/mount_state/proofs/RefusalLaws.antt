@@ -1,28 +1,13 @@
 -- What the guards of a request come to at a node that was found.
-use Rattle.std.proofs.Common.{◌≡◌, ℕ, Bool, true, false, List, Option, Some, None, refl, sym, ap, ◌∙◌}
+use Rattle.std.proofs.Common.{◌≡◌, ℕ, Bool, true, false, Option, Some, None, refl, ap, ◌∙◌}
 use Rattle.std.specs.Prelude.{if◌then◌else◌, option_map}
 use Rattle.std.specs.FinMap as fin
-use Rattle.std.specs.Option.{option_map_or}
 use Rattle.fuse_replies.specs.Errno.{enotdir, estale}
 use Rattle.inode_spec.specs.Inodes.{is_live}
-use Rattle.mount_rules.specs.Guards.{in_directory, is_directory, part_refusal}
+use Rattle.mount_rules.specs.Guards.{in_directory, is_directory}
 use Rattle.mount_rules.specs.Mount.{Node, NodeTable}
-use Rattle.mount_rules.specs.Requests.Symlink.{target_refusal, texts_refusal}
 use Rattle.mount_rules.specs.View.{Sight, sight_at, sight_of}
 use Rattle.mount_laws.proofs.Keeping.{no_Some}
-
--- where neither a name nor a target is refused, the name isn't
-pub name_goes_on : (seen : Option Sight) (name target : List ℕ) → in_directory seen (texts_refusal name target) ≡ None → in_directory seen (part_refusal name) ≡ None
-name_goes_on None name target free = absurd (no_Some (sym free))
-name_goes_on (Some sight) name target free = by sight.live (is_directory sight.kind) (part_refusal name sight) free
-  where
-    by : (live dir : Bool) (errno : Option ℕ)
-        → (if live then (if dir then option_map_or Some errno (target_refusal target) else Some enotdir) else Some estale) ≡ None
-        → (if live then (if dir then errno else Some enotdir) else Some estale) ≡ None
-    by true true None e = refl
-    by true true (Some errno) e = e
-    by true false errno e = e
-    by false dir errno e = e
 
 -- a live directory goes on
 pub in_live_directory : (table : NodeTable) (number : ℕ) (node : Node) (next : Sight → Option ℕ) → fin.get table.nodes number ≡ Some node

@@ -6,7 +6,7 @@ use Rattle.std.specs.Option.{option_map_or}
 use Rattle.bucket_api.specs.Metadata.{Metadata}
 use Rattle.bucket_api.specs.Operation.{max_content}
 use Rattle.fuse_requests.specs.declared.request.Request.{Request}
-use Rattle.fuse_requests.specs.declared.request.Request.TheVariants.{Create, Forget, Init, Lookup, Mkdir, Mknod, Readlink, Rename, Rmdir, Setattr, Symlink, Unlink}
+use Rattle.fuse_requests.specs.declared.request.Request.TheVariants.{Create, Forget, Lookup, Mkdir, Mknod, Readlink, Rename, Rmdir, Setattr, Symlink, Unlink}
 use Rattle.inode_spec.specs.Inodes.{file_of, forgotten, granted, root, root_number}
 use Rattle.mount_model.specs.Observing.{Observed}
 use Rattle.fuse_replies.specs.Errno.{enospc}
@@ -18,7 +18,6 @@ use Rattle.mount_rules.specs.Mount.{File, MountModel, Node, NodeTable, first_mou
 use Rattle.mount_rules.specs.Plans.{Contents, Wanted, answers_of, last_moment}
 use Rattle.mount_rules.specs.Requests.Create as create
 use Rattle.mount_rules.specs.Requests.Forget.{is_held}
-use Rattle.mount_rules.specs.Requests.Init as init
 use Rattle.mount_rules.specs.Requests.Lookup as lookup
 use Rattle.mount_rules.specs.Requests.Mkdir as mkdir
 use Rattle.mount_rules.specs.Requests.Mknod as mknod
@@ -187,13 +186,6 @@ module _ (at : AtTake) (mount : MountModel) (short : FilesAreShort mount) where
       let held = is_held mount.handles node in
       let after = forgotten mount.table node count held in
       goes (Forget node count) seen (nodes_short mount.table after (NodesFrom-stay Small mount.table after (NodesStay-forgotten mount.table node count held)) short)
-
-  pub init_short : (major minor readahead flags : ℕ) (seen : List Observed) → FilesAreShort (mount_after at mount (Init major minor readahead flags) seen)
-  init_short major minor readahead flags seen = goes (Init major minor readahead flags) seen (by (init.is_taken major minor))
-    where
-      by : (taken : Bool) → FilesAreShort (if taken then record mount { negotiated = true } else mount)
-      by true = short
-      by false = short
 
   -- a SETATTR that asks nothing stages alone
   pub setattr_short : (node valid size mtime nanos : ℕ) → FilesAreShort (mount_after at mount (Setattr node valid size mtime nanos) [])

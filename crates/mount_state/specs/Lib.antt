@@ -9,3 +9,4 @@ pub mod Serving
 pub mod Spares
 pub mod StagedAttrs
 pub mod Tables
+pub mod Telling

@@ -5,6 +5,7 @@ ghost use Rattle.fuse_requests.specs.Grammar.{without_spare};
 ghost use Rattle.mount_rules.specs.Dispatch.{early, mount_after, reply_to};
 ghost use Rattle.mount_rules.specs.Files.{FilesAreShort};
 ghost use Rattle.mount_rules.specs.Mount.{IsMount};
+ghost use Rattle.mount_rules.specs.Plans.{answers_of};
 ghost use Rattle.mount_rules.specs.Rules.{AtTake};
 ghost use Rattle.mount_state.specs.Files.{HasBlocks};
 ghost use Rattle.mount_state.specs.Serving.{IsServedAt, Serves};
@@ -15,10 +16,10 @@ use crate::base::Base;
 use crate::groups::{Group, group_of};
 use crate::spare::Spare;
 use crate::tables::Tables;
+use crate::told::Told;
 use fuse_replies::Reply;
 use fuse_requests::Request;
-use io_ports::Row;
-use mount_model::{Config, Observation};
+use mount_model::Config;
 
 impl Tables {
     /// What a request that observed this is answered, and the tables then.
@@ -28,7 +29,7 @@ impl Tables {
         second: u64,
         request: &Request,
         spare: Spare,
-        seen: Row<Observation>,
+        seen: Told,
         base: Base,
     ) -> Reply
         requires mount { IsMount (mount_of self.old) }
@@ -39,7 +40,7 @@ impl Tables {
         requires items { Fills config.now (mount_of self.old) (without_spare request.now) seen.items spare.items }
         requires room { HasRoom (need spare.provided) self.old }
         requires number { self.old.handles.next < 2 ^ 62 }
-        requires base { Serves config.now (mount_of self.old) (without_spare request.now) base }
+        requires base { Serves config.now (mount_of self.old) (without_spare request.now) (answers_of seen.items) base }
         ensures reply { (at : AtTake) → IsServedAt config.now second (mount_of self.old) (without_spare request.now) base at → reply_without_spare result ≡ reply_to at (mount_of self.old) (without_spare request.now) seen.items }
         ensures mount { (at : AtTake) → IsServedAt config.now second (mount_of self.old) (without_spare request.now) base at → mount_of self.new ≡ mount_after at (mount_of self.old) (without_spare request.now) seen.items }
         ensures uses { Uses (need spare.provided) self.old self.new }

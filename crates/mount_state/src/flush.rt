@@ -17,19 +17,18 @@ use crate::file::File;
 use crate::prepared::Prepared;
 use crate::refusals::is_live;
 use crate::tables::Tables;
+use crate::told::Told;
 use bucket_api::Meta;
 use fuse_replies::Reply;
 use fuse_replies::errno::{EIO, ESTALE};
 use inode_table::InodeTable;
-use io_ports::{Row, Text};
-use mount_model::Observation;
+use io_ports::Text;
 use plan_files::{Came, outcome_of_flush};
-use plan_names::last_moment;
 
 impl Tables {
     /// What a flush that observed this is answered. Where it made a generation the file shows that, under its name, and
     /// nothing of it is staged any more; ESTALE where the source is live no more, and what is staged stays.
-    pub(crate) fn flush(&mut self, node: u64, prepared: Prepared, seen: Row<Observation>) -> Reply
+    pub(crate) fn flush(&mut self, node: u64, prepared: Prepared, seen: Told) -> Reply
         requires mount { IsMount (mount_of self.old) }
         requires prepared { provided_by prepared ≡ flush_wants (fin.get self.old.staging.files node) (sight_at self.old.nodes.table node) }
         requires room { HasRoom (need (provided_by prepared)) self.old }
@@ -42,8 +41,8 @@ impl Tables {
         let Prepared::Name(name) = prepared else {
             return Reply::Empty;
         };
-        let moment = last_moment(&seen);
-        match outcome_of_flush(seen) {
+        let moment = seen.moment();
+        match outcome_of_flush(seen.into_answers()) {
             Came::Made(meta) => {
                 show_generation(&mut self.nodes, node, name, meta, moment);
                 self.staging.end(node);

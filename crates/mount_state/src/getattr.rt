@@ -11,22 +11,16 @@ use crate::attributes::attributes;
 use crate::showing::refresh;
 use crate::staged::staged_attr;
 use crate::tables::Tables;
+use crate::told::Told;
 use fuse_replies::errno::{EIO, ESTALE};
 use fuse_replies::{AttrOut, Reply};
-use io_ports::Row;
-use mount_model::{Config, Observation};
+use mount_model::Config;
 use plan_files::Standing;
-use plan_names::last_moment;
 
 impl Tables {
     /// The attributes of a node, of which this was observed: it has no name where its generation is live no more, seen
     /// later than it was last known to be live.
-    pub(crate) fn tell_attributes(
-        &mut self,
-        config: &Config,
-        node: u64,
-        seen: Row<Observation>,
-    ) -> Reply
+    pub(crate) fn tell_attributes(&mut self, config: &Config, node: u64, seen: Told) -> Reply
         ensures reply { result ≡ spec.reply_to config.now (mount_of self.old) node (last_moment seen.items) (standing (generation_seen (sight_at self.old.nodes.table node)) (answers_of seen.items)) }
         ensures table { self.new.nodes.table ≡ table_after self.old.nodes.table node (last_moment seen.items) (standing (generation_seen (sight_at self.old.nodes.table node)) (answers_of seen.items)) }
         ensures kept { self.new ≡ record self.old { nodes = self.new.nodes } }
@@ -34,7 +28,7 @@ impl Tables {
         ensures no_spare { without_spare result ≡ result }
         ensures sendable { IsSendable result }
     {
-        let moment = last_moment(&seen);
+        let moment = seen.moment();
         match self.standing(node, seen) {
             Standing::Unasked => self.attributes_with(config, node, 1),
             Standing::Live(meta) => {

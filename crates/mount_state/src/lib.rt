@@ -43,6 +43,7 @@ mod tables;
 mod target;
 #[cfg(test)]
 mod tests;
+mod told;
 mod unread;
 mod write;
 
@@ -50,3 +51,4 @@ pub use base::Base;
 pub use file::{File, Kept};
 pub use mount::Mount;
 pub use spare::Spare;
+pub use told::Told;

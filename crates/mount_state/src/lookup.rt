@@ -8,20 +8,15 @@ ghost use Rattle.mount_state.specs.Tables.{mount_of, Uses};
 use crate::path::PathTwice;
 use crate::showing::show_directory;
 use crate::tables::Tables;
+use crate::told::Told;
 use fuse_replies::Reply;
 use fuse_replies::errno::{EIO, ENOENT};
-use io_ports::Row;
-use mount_model::{Config, Observation};
-use plan_names::{Found, last_moment, outcome_of_lookup};
+use mount_model::Config;
+use plan_names::{Found, outcome_of_lookup};
 
 impl Tables {
     /// What a look-up that observed this is answered: the node of the path, or an error.
-    pub(crate) fn look_up(
-        &mut self,
-        config: &Config,
-        path: PathTwice,
-        seen: Row<Observation>,
-    ) -> Reply
+    pub(crate) fn look_up(&mut self, config: &Config, path: PathTwice, seen: Told) -> Reply
         requires spare { 1 ≤ self.old.nodes.spare }
         ensures reply { without_spare result ≡ spec.reply_to config.now (mount_of self.old) path (last_moment seen.items) (spec.found (answers_of seen.items)) }
         ensures table { self.new.nodes.table ≡ spec.table_after self.old.nodes.table path (last_moment seen.items) (spec.found (answers_of seen.items)) }
@@ -29,8 +24,8 @@ impl Tables {
         ensures uses { Uses 1 self.old self.new }
         ensures sendable { IsSendable (without_spare result) }
     {
-        let moment = last_moment(&seen);
-        match outcome_of_lookup(seen) {
+        let moment = seen.moment();
+        match outcome_of_lookup(seen.into_answers()) {
             Found::Directory => {
                 let (name, again) = path.into_prefixes();
                 Reply::Entry(show_directory(&mut self.nodes, config, name, again))

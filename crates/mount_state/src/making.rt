@@ -13,20 +13,15 @@ ghost use Rattle.object_names.specs.Paths.{dir_prefix_of};
 use crate::path::PathTwice;
 use crate::showing::{make, show_directory};
 use crate::tables::Tables;
+use crate::told::Told;
 use fuse_replies::errno::{EEXIST, EIO};
 use fuse_replies::{EntryOut, Reply};
-use io_ports::Row;
-use mount_model::{Config, Observation};
-use plan_names::{Made, last_moment, outcome_of_insert};
+use mount_model::Config;
+use plan_names::{Made, outcome_of_insert};
 
 impl Tables {
     /// What a CREATE that observed this is answered: a new node, open, or an error.
-    pub(crate) fn create(
-        &mut self,
-        config: &Config,
-        path: PathTwice,
-        seen: Row<Observation>,
-    ) -> Reply
+    pub(crate) fn create(&mut self, config: &Config, path: PathTwice, seen: Told) -> Reply
         requires spare { 1 ≤ self.old.nodes.spare }
         requires handle { 1 ≤ self.old.handles.spare }
         requires number { self.old.handles.next < 2 ^ 62 }
@@ -45,12 +40,7 @@ impl Tables {
     }
 
     /// What a MKNOD or a SYMLINK that observed this is answered: a new node, or an error.
-    pub(crate) fn make_node(
-        &mut self,
-        config: &Config,
-        path: PathTwice,
-        seen: Row<Observation>,
-    ) -> Reply
+    pub(crate) fn make_node(&mut self, config: &Config, path: PathTwice, seen: Told) -> Reply
         requires spare { 1 ≤ self.old.nodes.spare }
         ensures reply { without_spare result ≡ mknod.reply_to config.now (mount_of self.old) path (last_moment seen.items) (making.made (answers_of seen.items)) }
         ensures mount { mount_of self.new ≡ mknod.mount_after (mount_of self.old) path (last_moment seen.items) (making.made (answers_of seen.items)) }
@@ -64,20 +54,15 @@ impl Tables {
     }
 
     /// A new node of the object that was made, or the error of the request that was to make it.
-    fn new_node(
-        &mut self,
-        config: &Config,
-        path: PathTwice,
-        seen: Row<Observation>,
-    ) -> Result<EntryOut, u32>
+    fn new_node(&mut self, config: &Config, path: PathTwice, seen: Told) -> Result<EntryOut, u32>
         requires spare { 1 ≤ self.old.nodes.spare }
         ensures entry { result ≡ entry_or_errno config.now self.old.nodes.table path (last_moment seen.items) (making.made (answers_of seen.items)) }
         ensures mount { mount_of self.new ≡ mknod.mount_after (mount_of self.old) path (last_moment seen.items) (making.made (answers_of seen.items)) }
         ensures kept { self.new ≡ record self.old { nodes = self.new.nodes } }
         ensures uses { Uses 1 self.old self.new }
     {
-        let moment = last_moment(&seen);
-        match outcome_of_insert(seen) {
+        let moment = seen.moment();
+        match outcome_of_insert(seen.into_answers()) {
             Made::New(meta) => {
                 let (name, again) = path.into_paths();
                 Ok(make(&mut self.nodes, config, name, again, meta, moment))
@@ -88,19 +73,14 @@ impl Tables {
     }
 
     /// What a MKDIR that observed this is answered: the node of the directory at the path, or an error.
-    pub(crate) fn make_directory(
-        &mut self,
-        config: &Config,
-        path: PathTwice,
-        seen: Row<Observation>,
-    ) -> Reply
+    pub(crate) fn make_directory(&mut self, config: &Config, path: PathTwice, seen: Told) -> Reply
         requires spare { 1 ≤ self.old.nodes.spare }
         ensures reply { without_spare result ≡ mkdir.reply_to config.now (mount_of self.old) (dir_prefix_of path) (making.made (answers_of seen.items)) }
         ensures mount { mount_of self.new ≡ mkdir.mount_after (mount_of self.old) (dir_prefix_of path) (making.made (answers_of seen.items)) }
         ensures uses { Uses 1 self.old self.new }
         ensures sendable { IsSendable (without_spare result) }
     {
-        match outcome_of_insert(seen) {
+        match outcome_of_insert(seen.into_answers()) {
             Made::New(_) => {
                 let (name, again) = path.into_prefixes();
                 Reply::Entry(show_directory(&mut self.nodes, config, name, again))

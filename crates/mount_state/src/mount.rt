@@ -5,6 +5,7 @@ ghost use Rattle.fuse_requests.specs.Grammar.{without_spare};
 ghost use Rattle.mount_rules.specs.Dispatch.{early, mount_after, refused_at_take, reply_to, view_in};
 ghost use Rattle.mount_rules.specs.Files.{FilesAreShort};
 ghost use Rattle.mount_rules.specs.Mount.{IsMount, first_mount};
+ghost use Rattle.mount_rules.specs.Plans.{answers_of};
 ghost use Rattle.mount_rules.specs.Requests.Setattr as setattr;
 ghost use Rattle.mount_rules.specs.Rules.{at_file, AtTake};
 ghost use Rattle.mount_rules.specs.View.{view_of};
@@ -16,12 +17,13 @@ use crate::base::Base;
 use crate::file::File;
 use crate::spare::Spare;
 use crate::tables::Tables;
+use crate::told::Told;
 use fuse_replies::Reply;
 use fuse_requests::Request;
 use handle_table::HandleTable;
 use inode_table::InodeTable;
 use io_ports::{NoMemory, Row};
-use mount_model::{Config, Observation};
+use mount_model::Config;
 use plan_files::{Asked, Change};
 use staging_table::StagingTable;
 use std::alloc::Global;
@@ -175,7 +177,7 @@ impl Mount {
         second: u64,
         request: &Request,
         spare: Spare,
-        seen: Row<Observation>,
+        seen: Told,
         base: Base,
     ) -> Reply
         requires free { early self.old.mount (without_spare request.now) ≡ None }
@@ -183,7 +185,7 @@ impl Mount {
         requires items { Fills self.old.config self.old.mount (without_spare request.now) seen.items spare.items }
         requires room { need spare.provided ≤ self.old.promised }
         requires short { FilesAreShort self.old.mount }
-        requires base { Serves self.old.config self.old.mount (without_spare request.now) base }
+        requires base { Serves self.old.config self.old.mount (without_spare request.now) (answers_of seen.items) base }
         ensures reply { (at : AtTake) → IsServedAt self.old.config second self.old.mount (without_spare request.now) base at → reply_without_spare result ≡ reply_to at self.old.mount (without_spare request.now) seen.items }
         ensures mount { (at : AtTake) → IsServedAt self.old.config second self.old.mount (without_spare request.now) base at → self.new ≡ record self.old { mount = mount_after at self.old.mount (without_spare request.now) seen.items; promised = self.old.promised - need spare.provided } }
         ensures sendable { IsSendable (reply_without_spare result) }

@@ -11,10 +11,10 @@ ghost use Rattle.mount_state.specs.Tables.{mount_of, HasRoom, Uses};
 
 use crate::prepared::Prepared;
 use crate::tables::Tables;
+use crate::told::Told;
 use fuse_replies::Reply;
 use fuse_requests::Request;
-use io_ports::Row;
-use mount_model::{Config, Observation};
+use mount_model::Config;
 
 impl Tables {
     /// What a request that names an entry is answered that observed this, and the tables then.
@@ -23,7 +23,7 @@ impl Tables {
         config: &Config,
         request: &Request,
         prepared: Prepared,
-        seen: Row<Observation>,
+        seen: Told,
     ) -> Reply
         requires naming { IsNaming (without_spare request.now) }
         requires mount { IsMount (mount_of self.old) }

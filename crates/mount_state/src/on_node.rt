@@ -5,6 +5,7 @@ ghost use Rattle.fuse_requests.specs.Grammar.{without_spare};
 ghost use Rattle.mount_rules.specs.Dispatch.{early, mount_after, reply_to};
 ghost use Rattle.mount_rules.specs.Files.{FilesAreShort};
 ghost use Rattle.mount_rules.specs.Mount.{IsMount};
+ghost use Rattle.mount_rules.specs.Plans.{answers_of};
 ghost use Rattle.mount_rules.specs.Rules.{AtTake};
 ghost use Rattle.mount_state.specs.Files.{HasBlocks};
 ghost use Rattle.mount_state.specs.Groups.{IsOnNode};
@@ -15,10 +16,10 @@ ghost use Rattle.mount_state.specs.Tables.{mount_of, HasRoom, Uses};
 use crate::base::Base;
 use crate::spare::Spare;
 use crate::tables::Tables;
+use crate::told::Told;
 use fuse_replies::Reply;
 use fuse_requests::Request;
-use io_ports::Row;
-use mount_model::{Config, Observation};
+use mount_model::Config;
 use plan_files::Asked;
 
 impl Tables {
@@ -29,7 +30,7 @@ impl Tables {
         second: u64,
         request: &Request,
         spare: Spare,
-        seen: Row<Observation>,
+        seen: Told,
         base: Base,
     ) -> Reply
         requires group { IsOnNode (without_spare request.now) }
@@ -41,7 +42,7 @@ impl Tables {
         requires items { Fills config.now (mount_of self.old) (without_spare request.now) seen.items spare.items }
         requires room { HasRoom (need spare.provided) self.old }
         requires number { self.old.handles.next < 2 ^ 62 }
-        requires base { Serves config.now (mount_of self.old) (without_spare request.now) base }
+        requires base { Serves config.now (mount_of self.old) (without_spare request.now) (answers_of seen.items) base }
         ensures reply { (at : AtTake) → IsServedAt config.now second (mount_of self.old) (without_spare request.now) base at → reply_without_spare result ≡ reply_to at (mount_of self.old) (without_spare request.now) seen.items }
         ensures mount { (at : AtTake) → IsServedAt config.now second (mount_of self.old) (without_spare request.now) base at → mount_of self.new ≡ mount_after at (mount_of self.old) (without_spare request.now) seen.items }
         ensures uses { Uses (need spare.provided) self.old self.new }
@@ -59,27 +60,13 @@ impl Tables {
                 first,
                 size,
                 ..
-            } => self.read(
-                *node,
-                *first,
-                *size,
-                spare.into_prepared(),
-                seen.as_slice(),
-                base,
-            ),
+            } => self.read(*node, *first, *size, spare.into_prepared(), &seen, base),
             Request::Write {
                 node,
                 first,
                 content,
                 ..
-            } => self.write(
-                second,
-                *node,
-                *first,
-                content.as_slice(),
-                seen.as_slice(),
-                &base,
-            ),
+            } => self.write(second, *node, *first, content.as_slice(), &seen, &base),
             Request::Setattr {
                 node,
                 valid,

@@ -9,16 +9,14 @@ ghost use Rattle.mount_state.specs.Tables.{mount_of, Uses};
 
 use crate::showing::refresh;
 use crate::tables::Tables;
+use crate::told::Told;
 use fuse_replies::Reply;
 use fuse_replies::errno::{EIO, ESTALE};
-use io_ports::Row;
-use mount_model::Observation;
 use plan_files::Standing;
-use plan_names::last_moment;
 
 impl Tables {
     /// A handle of a file, of which this was observed; ESTALE where its generation is live no more.
-    pub(crate) fn open_file(&mut self, node: u64, seen: Row<Observation>) -> Reply
+    pub(crate) fn open_file(&mut self, node: u64, seen: Told) -> Reply
         requires handle { 1 ≤ self.old.handles.spare }
         requires number { self.old.handles.next < 2 ^ 62 }
         ensures reply { result ≡ spec.reply_to (mount_of self.old) (standing (generation_seen (sight_at self.old.nodes.table node)) (answers_of seen.items)) }
@@ -27,7 +25,7 @@ impl Tables {
         ensures no_spare { without_spare result ≡ result }
         ensures sendable { IsSendable result }
     {
-        let moment = last_moment(&seen);
+        let moment = seen.moment();
         match self.standing(node, seen) {
             Standing::Unasked => {},
             Standing::Live(meta) => refresh(&mut self.nodes, node, meta, moment),

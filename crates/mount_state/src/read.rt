@@ -6,7 +6,7 @@ ghost use Rattle.fuse_replies.specs.Replies.{IsSendable, without_spare};
 ghost use Rattle.mount_rules.specs.Files.{FilesAreShort};
 ghost use Rattle.mount_rules.specs.Guards.{longest_read};
 ghost use Rattle.mount_rules.specs.Plans.{answers_of, Contents, CoversWanted, HoldsWanted};
-ghost use Rattle.mount_rules.specs.Reading.{reads};
+ghost use Rattle.mount_rules.specs.Reading.{given, reads};
 ghost use Rattle.mount_rules.specs.Requests.Read as spec;
 ghost use Rattle.mount_rules.specs.View.{Sight, sight_at};
 ghost use Rattle.mount_state.specs.Files.{read_bytes, read_wanted};
@@ -16,10 +16,10 @@ ghost use Rattle.mount_state.specs.Tables.{mount_of};
 use crate::base::Base;
 use crate::prepared::Prepared;
 use crate::tables::Tables;
+use crate::told::Told;
 use fuse_replies::Reply;
 use fuse_replies::errno::{EIO, ESTALE};
 use io_ports::Bytes;
-use mount_model::Observation;
 use plan_files::{Reads, outcome_of_reads};
 
 impl Tables {
@@ -31,19 +31,19 @@ impl Tables {
         first: u64,
         size: u32,
         prepared: Prepared,
-        seen: &[Observation],
+        seen: &Told,
         base: Base,
     ) -> Reply
         requires files { FilesAreShort (mount_of self.now) }
         requires there { IsSome (sight_at self.now.nodes.table node) }
         requires short { size ≤ longest_read }
         requires prepared { provided_by prepared ≡ read_wants first size (fin.get self.now.staging.files node) }
-        requires covers { CoversWanted (read_wanted (mount_of self.now) node first size) base.first (length base.bytes) }
-        ensures reply { (contents : Contents) → HoldsWanted contents (read_wanted (mount_of self.now) node first size) base.first base.bytes → result ≡ spec.reply_to (read_bytes contents (mount_of self.now) node first size) (reads (answers_of seen.now)) }
+        requires covers { reads (answers_of seen.now.items) ≡ given → CoversWanted (read_wanted (mount_of self.now) node first size) base.first (length base.bytes) }
+        ensures reply { (contents : Contents) → HoldsWanted contents (read_wanted (mount_of self.now) node first size) base.first base.bytes → result ≡ spec.reply_to (read_bytes contents (mount_of self.now) node first size) (reads (answers_of seen.now.items)) }
         ensures no_spare { without_spare result ≡ result }
         ensures sendable { IsSendable result }
     {
-        match outcome_of_reads(seen) {
+        match outcome_of_reads(seen.answers()) {
             Reads::Given => Reply::Content(self.bytes(node, first, size, prepared, base)),
             Reads::Gone => Reply::Error(ESTALE),
             Reads::Failed => Reply::Error(EIO),

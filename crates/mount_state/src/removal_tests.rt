@@ -2,15 +2,13 @@
 //! ENOTEMPTY 39, ESTALE 116.
 ghost use Rattle.mount_rules.specs.Files.{FilesAreShort};
 
-use crate::Mount;
 use crate::tests::{
-    Outcome, Setting, agree, create, failed, file, look_up, new_mount, object, observed, perform,
-    set,
+    Outcome, Setting, agree, create, failed, file, look_up, new_mount, object, perform, set,
 };
+use crate::{Mount, Told};
 use bucket_api::{Answer, Meta, Page};
 use fuse_requests::Request;
 use io_ports::{Bytes, NoMemory, Row, Text};
-use mount_model::Observation;
 use std::alloc::Global;
 use std::process::Abort;
 use std::test::Fail;
@@ -21,13 +19,13 @@ fn done() -> Outcome {
 }
 
 /// That operations were answered so, in order.
-fn answered(alloc: Global, answers: Vec<Answer>) -> Result<Row<Observation>, NoMemory> {
-    let mut seen = Vec::new(alloc);
+fn answered(alloc: Global, answers: Vec<Answer>) -> Result<Told, NoMemory> {
+    let mut seen = Told::new(alloc);
     for answer in answers {
-        let observation = observed(alloc, 1, answer)?;
-        seen.push(observation)?;
+        seen.reserve()?;
+        seen.push(1, answer);
     }
-    Ok(Row::from_vec(seen))
+    Ok(seen)
 }
 
 /// UNLINK of `foo` in the root, whose delete was answered so.
@@ -42,7 +40,7 @@ fn unlink(mount: &mut Mount, alloc: Global, answer: Answer) -> Result<Outcome, N
 }
 
 /// That no directory was found, generation 1 was shown and copied, and its delete was answered so.
-fn moved(alloc: Global, deleted: Answer) -> Result<Row<Observation>, NoMemory> {
+fn moved(alloc: Global, deleted: Answer) -> Result<Told, NoMemory> {
     let shown = object(alloc, 1, Row::new(alloc))?;
     let copied = object(alloc, 2, Row::new(alloc))?;
     answered(

@@ -11,26 +11,25 @@ ghost use Rattle.plan_names.specs.Outcomes.{as_removed};
 
 use crate::path::RoomyPath;
 use crate::tables::Tables;
+use crate::told::Told;
 use fuse_replies::Reply;
 use fuse_replies::errno::{EIO, ENOENT, ENOTEMPTY};
-use io_ports::Row;
-use mount_model::Observation;
 use plan_names::{Emptied, Removed, outcome_of_rmdir, outcome_of_unlink};
 
 impl Tables {
     /// What an UNLINK of the object of a path is answered that observed this.
-    pub(crate) fn unlink(&mut self, path: &RoomyPath, seen: &Row<Observation>) -> Reply
+    pub(crate) fn unlink(&mut self, path: &RoomyPath, seen: &Told) -> Reply
         ensures reply { result ≡ spec.reply_to (unlink.removed (answers_of seen.now.items)) }
         ensures mount { mount_of self.new ≡ spec.mount_after (mount_of self.old) path.now (unlink.removed (answers_of seen.now.items)) }
         ensures uses { Uses 0 self.old self.new }
         ensures no_spare { without_spare result ≡ result }
         ensures sendable { IsSendable result }
     {
-        self.remove(path.as_str(), outcome_of_unlink(seen))
+        self.remove(path.as_str(), outcome_of_unlink(seen.answers()))
     }
 
     /// What an RMDIR of the directory of a path is answered that observed this.
-    pub(crate) fn remove_directory(&mut self, path: RoomyPath, seen: &Row<Observation>) -> Reply
+    pub(crate) fn remove_directory(&mut self, path: RoomyPath, seen: &Told) -> Reply
         requires { IsPath path }
         ensures reply { result ≡ rmdir.reply_to (rmdir.came_of (dir_prefix_of path) (answers_of seen.now.items)) }
         ensures mount { mount_of self.new ≡ rmdir.mount_after (mount_of self.old) (dir_prefix_of path) (rmdir.came_of (dir_prefix_of path) (answers_of seen.now.items)) }
@@ -38,7 +37,7 @@ impl Tables {
         ensures no_spare { without_spare result ≡ result }
         ensures sendable { IsSendable result }
     {
-        match outcome_of_rmdir(path.as_str(), seen) {
+        match outcome_of_rmdir(path.as_str(), seen.answers()) {
             Emptied::Removed(removed) => {
                 let prefix = path.into_prefix();
                 self.remove(prefix.as_str(), removed)

@@ -15,12 +15,11 @@ ghost use Rattle.plan_files.specs.Settings.{as_change, asked_of};
 
 use crate::showing::refresh;
 use crate::tables::Tables;
+use crate::told::Told;
 use fuse_replies::Reply;
 use fuse_replies::errno::{EIO, ESTALE};
-use io_ports::Row;
-use mount_model::{Config, Observation};
+use mount_model::Config;
 use plan_files::{Asked, Change, Standing, outcome_of_update};
-use plan_names::last_moment;
 
 impl Tables {
     /// What a SETATTR that observed this is answered: the attributes as the node then has them; ESTALE where the generation
@@ -31,7 +30,7 @@ impl Tables {
         second: u64,
         node: u64,
         asked: &Asked,
-        seen: Row<Observation>,
+        seen: Told,
     ) -> Reply
         requires short { FilesAreShort (mount_of self.old) }
         requires there { IsSome (sight_at self.old.nodes.table node) }
@@ -94,7 +93,7 @@ impl Tables {
     }
 
     /// The time of the object was set, where the update was answered so: the file keeps what the bucket told of it.
-    fn set_time(&mut self, config: &Config, node: u64, seen: Row<Observation>) -> Reply
+    fn set_time(&mut self, config: &Config, node: u64, seen: Told) -> Reply
         ensures reply { result ≡ spec.set_reply config.now (record (mount_of self.old) { table = table_after self.old.nodes.table node (last_moment seen.items) (spec.standing_of (answers_of seen.items)) }) node (spec.standing_of (answers_of seen.items)) }
         ensures table { self.new.nodes.table ≡ table_after self.old.nodes.table node (last_moment seen.items) (spec.standing_of (answers_of seen.items)) }
         ensures kept { self.new ≡ record self.old { nodes = self.new.nodes } }
@@ -102,8 +101,8 @@ impl Tables {
         ensures no_spare { without_spare result ≡ result }
         ensures sendable { IsSendable result }
     {
-        let moment = last_moment(&seen);
-        match outcome_of_update(seen) {
+        let moment = seen.moment();
+        match outcome_of_update(seen.into_answers()) {
             Standing::Unasked => {},
             Standing::Live(meta) => refresh(&mut self.nodes, node, meta, moment),
             Standing::Gone => return Reply::Error(ESTALE),

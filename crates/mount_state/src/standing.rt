@@ -6,16 +6,15 @@ ghost use Rattle.mount_rules.specs.View.{sight_at};
 ghost use Rattle.plan_files.specs.Outcomes.{as_standing};
 
 use crate::tables::Tables;
-use io_ports::Row;
-use mount_model::Observation;
+use crate::told::Told;
 use plan_files::{Standing, outcome_of_stat};
 
 impl Tables {
     /// How the generation of a node stands, by what was observed.
-    pub(crate) fn standing(&self, node: u64, seen: Row<Observation>) -> Standing
+    pub(crate) fn standing(&self, node: u64, seen: Told) -> Standing
         ensures { as_standing result ≡ spec.standing (spec.generation_seen (sight_at self.now.nodes.table node)) (answers_of seen.items) }
     {
-        outcome_of_stat(self.source(node), seen)
+        outcome_of_stat(self.source(node), seen.into_answers())
     }
 
     /// The generation that a node shows; 0 of a directory.

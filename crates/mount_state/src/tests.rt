@@ -14,12 +14,12 @@ ghost use Rattle.mount_state.specs.Spares.{Fills};
 
 use crate::attributes::time_of_object;
 use crate::entries::entries_from;
-use crate::{Base, Mount};
-use bucket_api::{Answer, Meta, Op, Pair};
+use crate::{Base, Mount, Told};
+use bucket_api::{Answer, Meta, Pair};
 use fuse_replies::{AttrOut, Reply};
 use fuse_requests::Request;
 use io_ports::{Bytes, NoMemory, Row, Text};
-use mount_model::{Config, Observation};
+use mount_model::Config;
 use object_names::{DirItem, NodeKind};
 use std::alloc::Global;
 use std::process::Abort;
@@ -84,7 +84,7 @@ fn answer(
     mount: &mut Mount,
     alloc: Global,
     request: &Request,
-    seen: Row<Observation>,
+    seen: Told,
 ) -> Result<Reply, NoMemory>
     requires short { FilesAreShort mount.old.mount }
     requires items { (config : Config) (held : MountModel) → Fills config held (without_spare request.now) seen.items [] }
@@ -104,7 +104,7 @@ pub(crate) fn perform(
     mount: &mut Mount,
     alloc: Global,
     request: &Request,
-    seen: Row<Observation>,
+    seen: Told,
 ) -> Result<Outcome, NoMemory>
     requires short { FilesAreShort mount.old.mount }
     requires items { (config : Config) (held : MountModel) → Fills config held (without_spare request.now) seen.items [] }
@@ -135,7 +135,7 @@ pub(crate) fn agree(mount: &mut Mount, alloc: Global) -> Result<Outcome, NoMemor
         readahead: 131_072,
         flags: u32::MAX,
     };
-    perform(mount, alloc, &request, Row::new(alloc))
+    perform(mount, alloc, &request, Told::new(alloc))
 }
 
 /// That the bucket told of an object `foo` of 5 bytes, with these pairs.
@@ -153,36 +153,16 @@ pub(crate) fn object(alloc: Global, generation: u64, pairs: Row<Pair>) -> Result
     }))
 }
 
-/// That an operation on `foo` was answered so.
-pub(crate) fn observed(alloc: Global, moment: u64, answer: Answer) -> Result<Observation, NoMemory>
-    ensures { IfOk result (λ observation. observation.answer ≡ answer) }
-{
-    let name = Text::of(alloc, "foo")?;
-    Ok(Observation {
-        op: Op::Stat { name },
-        moment,
-        answer,
-    })
-}
-
-/// That this generation of `foo` was shown.
-fn shown(alloc: Global, generation: u64, moment: u64) -> Result<Observation, NoMemory>
-    ensures { IfOk result (λ observation. observation.answer ≡ Answer.Meta (record { name = codes "foo"; generation = generation; metageneration = 1; size = 5; updated = 7; pairs = [] })) }
-{
-    let answer = object(alloc, generation, Row::new(alloc))?;
-    observed(alloc, moment, answer)
-}
-
 /// That no directory was found, and then this generation of `foo` was shown.
-fn found(alloc: Global, generation: u64, moment: u64) -> Result<Row<Observation>, NoMemory>
+fn found(alloc: Global, generation: u64, moment: u64) -> Result<Told, NoMemory>
     ensures { IfOk result (λ seen. lookup.found (answers_of seen.items) ≡ lookup.object (record { name = codes "foo"; generation = generation; metageneration = 1; size = 5; updated = 7; pairs = [] })) }
 {
-    let probe = observed(alloc, moment, Answer::NotFound)?;
-    let stat = shown(alloc, generation, moment)?;
-    let mut seen = Row::new(alloc);
-    seen.reserve(2)?;
-    seen.push(probe);
-    seen.push(stat);
+    let stat = object(alloc, generation, Row::new(alloc))?;
+    let mut seen = Told::new(alloc);
+    seen.reserve()?;
+    seen.push(moment, Answer::NotFound);
+    seen.reserve()?;
+    seen.push(moment, stat);
     Ok(seen)
 }
 
@@ -241,14 +221,13 @@ fn a_node_stays_while_its_generation_is_shown(rt: HostRuntime) -> Result<(), Fai
 }
 
 /// That `foo` was made, with these pairs.
-fn made(alloc: Global, pairs: Row<Pair>) -> Result<Row<Observation>, NoMemory>
+fn made(alloc: Global, pairs: Row<Pair>) -> Result<Told, NoMemory>
     ensures { IfOk result (λ seen. making.made (answers_of seen.items) ≡ making.new (record { name = codes "foo"; generation = 1; metageneration = 1; size = 5; updated = 7; pairs = pairs.items })) }
 {
     let answer = object(alloc, 1, pairs)?;
-    let insert = observed(alloc, 1, answer)?;
-    let mut seen = Row::new(alloc);
-    seen.reserve(1)?;
-    seen.push(insert);
+    let mut seen = Told::new(alloc);
+    seen.reserve()?;
+    seen.push(1, answer);
     Ok(seen)
 }
 
@@ -269,7 +248,7 @@ fn forget(mount: &mut Mount, alloc: Global, node: u64) -> Result<Outcome, NoMemo
     ensures short { FilesAreShort mount.new.mount }
 {
     let request = Request::Forget { node, count: 1 };
-    perform(mount, alloc, &request, Row::new(alloc))
+    perform(mount, alloc, &request, Told::new(alloc))
 }
 
 fn file_stays<R: Abort + AllocGlobal>(mount: &mut Mount, rt: &R) -> Result<(), NoMemory>
@@ -366,7 +345,7 @@ fn leads_to(mount: &mut Mount, alloc: Global, node: u64, target: &[u8]) -> Resul
     ensures short { FilesAreShort mount.new.mount }
 {
     let request = Request::Readlink { node };
-    let reply = answer(mount, alloc, &request, Row::new(alloc))?;
+    let reply = answer(mount, alloc, &request, Told::new(alloc))?;
     Ok(matches!(&reply, Reply::Target(bytes) if bytes.as_slice() == target))
 }
 
@@ -461,7 +440,7 @@ pub(crate) fn set(mount: &mut Mount, alloc: Global, setting: &Setting) -> Result
         mtime: setting.2.0,
         nanos: setting.2.1,
     };
-    perform(mount, alloc, &request, Row::new(alloc))
+    perform(mount, alloc, &request, Told::new(alloc))
 }
 
 fn sizes_and_times_are_set<R: Abort + AllocGlobal>(

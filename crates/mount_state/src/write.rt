@@ -15,9 +15,9 @@ ghost use Rattle.mount_state.specs.Tables.{mount_of, HasRoom, Uses};
 
 use crate::base::Base;
 use crate::tables::Tables;
+use crate::told::Told;
 use fuse_replies::Reply;
 use fuse_replies::errno::{EIO, ENOSPC, ESTALE};
-use mount_model::Observation;
 use plan_files::{Reads, outcome_of_reads};
 
 impl Tables {
@@ -29,7 +29,7 @@ impl Tables {
         node: u64,
         first: u64,
         content: &[u8],
-        seen: &[Observation],
+        seen: &Told,
         base: &Base,
     ) -> Reply
         requires short { FilesAreShort (mount_of self.old) }
@@ -37,14 +37,14 @@ impl Tables {
         requires few { length content.now ≤ spec.longest_write }
         requires range { first + length content.now ≤ max_content }
         requires room { HasRoom (need (write_wants content.now)) self.old }
-        requires covers { (config : Config) → HasBlocks self.old config → CoversUnlessFull config (mount_of self.old) node first content.now base.now }
-        ensures reply { (config : Config) → HasBlocks self.old config → result ≡ spec.reply_to (length content.now) (came_at config (mount_of self.old) node first content.now (reads (answers_of seen.now))) }
-        ensures mount { (at : AtTake) → HasBlocks self.old at.config → at.second ≡ second → HoldsUnlessFull at (mount_of self.old) node first content.now base.now → mount_of self.new ≡ spec.mount_after (file_taken at (mount_of self.old) node) (mount_of self.old) node first content.now (came_at at.config (mount_of self.old) node first content.now (reads (answers_of seen.now))) }
+        requires covers { reads (answers_of seen.now.items) ≡ given → (config : Config) → HasBlocks self.old config → CoversUnlessFull config (mount_of self.old) node first content.now base.now }
+        ensures reply { (config : Config) → HasBlocks self.old config → result ≡ spec.reply_to (length content.now) (came_at config (mount_of self.old) node first content.now (reads (answers_of seen.now.items))) }
+        ensures mount { (at : AtTake) → HasBlocks self.old at.config → at.second ≡ second → HoldsUnlessFull at (mount_of self.old) node first content.now base.now → mount_of self.new ≡ spec.mount_after (file_taken at (mount_of self.old) node) (mount_of self.old) node first content.now (came_at at.config (mount_of self.old) node first content.now (reads (answers_of seen.now.items))) }
         ensures uses { Uses (need (write_wants content.now)) self.old self.new }
         ensures no_spare { without_spare result ≡ result }
         ensures sendable { IsSendable result }
     {
-        match outcome_of_reads(seen) {
+        match outcome_of_reads(seen.answers()) {
             Reads::Given => self.write_given(second, node, first, content, base),
             Reads::Gone => Reply::Error(ESTALE),
             Reads::Failed => Reply::Error(EIO),

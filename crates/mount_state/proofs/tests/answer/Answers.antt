@@ -1,5 +1,5 @@
 -- The mount is prepared, and goes on with short files.
-use Rattle.std.proofs.Common.{◌≡◌, Option, None, refl, sym, ap, subst, ◌∙◌}
+use Rattle.std.proofs.Common.{Option, refl, sym, ap, subst, ◌∙◌}
 use Rattle.fuse_requests.specs.Grammar.{without_spare}
 use Rattle.mount_rules.specs.Dispatch.{early}
 use Rattle.mount_rules.specs.Files.{FilesAreShort}

@@ -24,26 +24,24 @@ read-requires-clause-short c =
 pub returns-in-Write-clause-reply : goal.returns-in-Write-clause-reply
 returns-in-Write-clause-reply c = λ at served.
     let mount = mount_of c.args.self.now in
-    let content = c.as_slice-in-Write.result.now in
-    let seen = c.as_slice-in-Write-2.result.now in
+    let content = c.as_slice.result.now in
+    let seen = c.args.seen.items in
     let same : without_spare c.args.request.now ≡ Write c.in-Write.node c.in-Write.fh c.in-Write.first content =
-    ap without_spare c.in-Write.is ∙ ap (Write c.in-Write.node c.in-Write.fh c.in-Write.first) (sym c.as_slice-in-Write.ensures.bytes) in
+    ap without_spare c.in-Write.is ∙ ap (Write c.in-Write.node c.in-Write.fh c.in-Write.first) (sym c.as_slice.ensures.bytes) in
     c.write.ensures.no_spare
     ∙ write_replies mount c.in-Write.node c.in-Write.fh c.in-Write.first content (subst (λ (r : Request). early mount r ≡ None) same c.requires.free)
     at c.args.config.now c.args.second c.args.self.now.staging.blocks c.args.base seen
     (subst (λ (r : Request). IsServedAt c.args.config.now c.args.second mount r c.args.base at) same served) c.requires.blocks c.write.result c.write.ensures.reply
     ∙ ap (λ (r : Request). reply_to at mount r seen) (sym same)
-    ∙ ap (reply_to at mount (without_spare c.args.request.now)) c.as_slice-in-Write-2.ensures.items
 
 pub returns-in-Write-clause-mount : goal.returns-in-Write-clause-mount
 returns-in-Write-clause-mount c = λ at served.
     let mount = mount_of c.args.self.now in
-    let content = c.as_slice-in-Write.result.now in
-    let seen = c.as_slice-in-Write-2.result.now in
+    let content = c.as_slice.result.now in
+    let seen = c.args.seen.items in
     let same : without_spare c.args.request.now ≡ Write c.in-Write.node c.in-Write.fh c.in-Write.first content =
-    ap without_spare c.in-Write.is ∙ ap (Write c.in-Write.node c.in-Write.fh c.in-Write.first) (sym c.as_slice-in-Write.ensures.bytes) in
+    ap without_spare c.in-Write.is ∙ ap (Write c.in-Write.node c.in-Write.fh c.in-Write.first) (sym c.as_slice.ensures.bytes) in
     write_leaves mount c.in-Write.node c.in-Write.fh c.in-Write.first content (subst (λ (r : Request). early mount r ≡ None) same c.requires.free)
     at c.args.config.now c.args.second c.args.self.now.staging.blocks c.args.base seen
     (subst (λ (r : Request). IsServedAt c.args.config.now c.args.second mount r c.args.base at) same served) c.requires.blocks (mount_of c.write.new.self) c.write.ensures.mount
     ∙ ap (λ (r : Request). mount_after at mount r seen) (sym same)
-    ∙ ap (mount_after at mount (without_spare c.args.request.now)) c.as_slice-in-Write-2.ensures.items

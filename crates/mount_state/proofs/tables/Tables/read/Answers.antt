@@ -13,7 +13,7 @@ pub returns-in-Given-clause-reply : goal.returns-in-Given-clause-reply
 returns-in-Given-clause-reply c = λ contents holds.
     let staged = fin.get c.args.self.now.staging.files c.args.node in
     let seen = sight_at c.args.self.now.nodes.table c.args.node in
-    let told : given ≡ reads (answers_of c.args.seen.now) = ap as_reads (sym c.in-Given.is) ∙ c.outcome_of_reads.ensures in
+    let told : given ≡ reads (answers_of c.args.seen.now.items) = ap as_reads (sym c.in-Given.is) ∙ c.outcome_of_reads.ensures ∙ ap reads c.answers.ensures in
     ap Content (c.bytes.ensures.bytes contents holds) ∙ ap (spec.reply_to (spec.bytes contents c.args.first c.args.size staged seen)) told
 
 pub returns-in-Given-clause-sendable : goal.returns-in-Given-clause-sendable

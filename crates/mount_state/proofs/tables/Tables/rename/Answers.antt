@@ -38,24 +38,24 @@ returns-in-Moved-clause-mount c = λ names view wants.
     ∙ (λ i. detached (detached mount.table (from i)) (to i)) in
     ap (λ (t : NodeTable). record mount { table = t }) table
     ∙ leaves c.in-Moving.from c.in-Moving.to names view (sym (ap provided_by c.in-Moving.is) ∙ wants) mount (answers_of c.args.seen.now.items)
-    (ap as_moved (sym c.in-Moved.is) ∙ c.outcome_of_rename.ensures)
+    (ap as_moved (sym c.in-Moved.is) ∙ c.outcome_of_rename.ensures ∙ ap came_of c.answers.ensures)
 
 pub returns-in-Directory-clause-reply : goal.returns-in-Directory-clause-reply
 returns-in-Directory-clause-reply c = λ names view wants.
     replies c.in-Moving.from c.in-Moving.to names view (sym (ap provided_by c.in-Moving.is) ∙ wants) (answers_of c.args.seen.now.items) directory
-    (ap as_moved (sym c.in-Directory.is) ∙ c.outcome_of_rename.ensures)
+    (ap as_moved (sym c.in-Directory.is) ∙ c.outcome_of_rename.ensures ∙ ap came_of c.answers.ensures)
 
 pub returns-in-Nothing-clause-reply : goal.returns-in-Nothing-clause-reply
 returns-in-Nothing-clause-reply c = λ names view wants.
     replies c.in-Moving.from c.in-Moving.to names view (sym (ap provided_by c.in-Moving.is) ∙ wants) (answers_of c.args.seen.now.items) nothing
-    (ap as_moved (sym c.in-Nothing.is) ∙ c.outcome_of_rename.ensures)
+    (ap as_moved (sym c.in-Nothing.is) ∙ c.outcome_of_rename.ensures ∙ ap came_of c.answers.ensures)
 
 pub returns-in-Stale-clause-reply : goal.returns-in-Stale-clause-reply
 returns-in-Stale-clause-reply c = λ names view wants.
     replies c.in-Moving.from c.in-Moving.to names view (sym (ap provided_by c.in-Moving.is) ∙ wants) (answers_of c.args.seen.now.items) stale
-    (ap as_moved (sym c.in-Stale.is) ∙ c.outcome_of_rename.ensures)
+    (ap as_moved (sym c.in-Stale.is) ∙ c.outcome_of_rename.ensures ∙ ap came_of c.answers.ensures)
 
 pub returns-clause-reply : goal.returns-clause-reply
 returns-clause-reply c = λ names view wants.
     replies c.in-Moving.from c.in-Moving.to names view (sym (ap provided_by c.in-Moving.is) ∙ wants) (answers_of c.args.seen.now.items) fault
-    (ap as_moved (sym c.in-Fault.is) ∙ c.outcome_of_rename.ensures)
+    (ap as_moved (sym c.in-Fault.is) ∙ c.outcome_of_rename.ensures ∙ ap came_of c.answers.ensures)
