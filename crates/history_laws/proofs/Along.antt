@@ -22,6 +22,7 @@ use Rattle.history_spec.specs.Fits.{Follows, MayFollow}
 use Rattle.history_spec.specs.JournalState.{JournalState, OpenCall, after_done, after_turn, after_turns, at_front, first_journal, mount_by, open_of, reached, taken_by}
 use Rattle.mount_laws.proofs.Contents.{files_show, show_content, show_files}
 use Rattle.mount_laws.proofs.Keeping.{no_Some}
+use Rattle.mount_laws.proofs.Lengths.{was_live}
 use Rattle.mount_laws.proofs.Mounts.{IsMount-first}
 use Rattle.mount_laws.proofs.Sources.{NodesFrom, NodesFrom-same}
 use Rattle.mount_laws.proofs.StagedContents.{SeesFileAt-seen}
@@ -115,7 +116,7 @@ module _ (config : Config) (start : BucketState) (log : List LogEvent) (bucket :
     taken = stands.taken;
   }
 
-  stands_along : (state : JournalState) (turns : Account) → Follows config start log state turns → Stands start log state → Stands start log (after_turns config start log state turns)
+  pub stands_along : (state : JournalState) (turns : Account) → Follows config start log state turns → Stands start log state → Stands start log (after_turns config start log state turns)
   stands_along state [] follows stands = stands
   stands_along state (turn ∷ turns) follows stands =
       stands_along (after_turn config start log state turn) turns follows.1 (stands_turn state turn follows.0 stands)
@@ -125,12 +126,15 @@ module _ (config : Config) (start : BucketState) (log : List LogEvent) (bucket :
   no_file number node file has (inl (at, one)) = no_Some (ap (λ (n : Node). n.file) one ∙ has)
   no_file number node file has (inr was) = let none : fin.get {X = Node} {R = nat_cmp} fin.empty number ≡ None = fin.get-empty nat_cmp number in no_Some (sym none ∙ was)
 
-  pub stands : (turns : Account) → Follows config start log first_journal turns → Stands start log (reached config start log turns)
-  stands turns follows = stands_along first_journal turns follows (record {
+  pub stands_first : Stands start log first_journal
+  stands_first = record {
     is = IsMount-first;
     files = λ number node file there has. absurd (no_file number node file has (number_put fin.empty 1 root node number there));
     taken = tt;
-  })
+  }
+
+  pub stands : (turns : Account) → Follows config start log first_journal turns → Stands start log (reached config start log turns)
+  stands turns follows = stands_along first_journal turns follows stands_first
 
 -- ---- by the whole log
 module _ (start : BucketState) (log : List LogEvent) (state : JournalState) (stands : Stands start log state) where
@@ -150,3 +154,10 @@ module _ (start : BucketState) (log : List LogEvent) (state : JournalState) (sta
       ap (λ events. content_of start events file.name file.source) (sym (take-append-drop o.front log))
       ∙ content_of-grown start (take o.front log) (drop o.front log) file.name file.source has.0 has.1 in
       ap (λ (c : Contents). c file.name file.source) taken.contents ∙ ap (λ known. unwrap_or known []) has.1 ∙ sym (ap (λ known. unwrap_or known []) whole)
+
+  -- the generation that a file shows was given
+  pub source_numbered : IsBucket start → All (λ e. IsAllowed e.op) log → (number : ℕ) (file : Sight) → sight_at state.mount.table number ≡ Some file → is_directory file.kind ≡ false → 1 ≤ file.source
+  source_numbered bucket allowed number file seen other =
+      let s = SeesFileAt-seen state.mount number file stands.is seen other in
+      let known = files_whole number s.node s.file s.there s.is in
+      subst (λ n. 1 ≤ n) (sym s.source) (was_live start log s.node.name s.file.source known.0 bucket allowed known.1).numbered

@@ -1,6 +1,6 @@
 -- What plans allow: the operation that a step asks, or a read of a source before it. READ and WRITE alone read a source
 -- before nothing.
-use Rattle.std.proofs.Common.{◌≡◌, ℕ, Bool, true, false, List, [], ◌∷◌, Option, Some, None, refl, ◌⊎◌, inl, inr}
+use Rattle.std.proofs.Common.{◌≡◌, ℕ, Bool, true, false, List, [], ◌∷◌, Option, Some, None, refl, subst, ◌⊎◌, inl, inr}
 use Rattle.std.specs.Prelude.{if◌then◌else◌}
 use Rattle.std.specs.Option.{option_map_or}
 use Rattle.bucket_api.specs.Operation.{Operation, stat, read, insert, update, delete, copy, list}
@@ -8,8 +8,27 @@ use Rattle.bucket_api.specs.declared.answers.Answer.{Answer}
 use Rattle.bucket_api.specs.declared.answers.Answer.TheVariants as answers
 use Rattle.bucket_api.specs.declared.objects.Pair.{Pair}
 use Rattle.fuse_requests.specs.declared.request.Request.{Request}
-use Rattle.fuse_requests.specs.declared.request.Request.TheVariants.{Create, Flush, Fsync, Getattr, Lookup, Mkdir, Mknod, Opendir, Opening, Read, Rename, Rename2, Rmdir, Setattr, Symlink, Unlink, Write}
+use Rattle.fuse_requests.specs.declared.request.Request.TheVariants.{
+  Create,
+  Flush,
+  Fsync,
+  Getattr,
+  Lookup,
+  Mkdir,
+  Mknod,
+  Opendir,
+  Opening,
+  Read,
+  Rename,
+  Rename2,
+  Rmdir,
+  Setattr,
+  Symlink,
+  Unlink,
+  Write,
+}
 use Rattle.fuse_requests.specs.declared.request.Request.TheVariants.{BatchForget, Destroy, Forget, Fsyncdir, Init, Interrupt, Readdir, Readlink, Release, Releasedir, Statfs, Unknown}
+use Rattle.history_laws.specs.Agreements.{IsReadOrWrite}
 use Rattle.mount_rules.specs.Dispatch.{goes_on, plan, rules_of, taken_at}
 use Rattle.mount_rules.specs.Laws.{IsRead}
 use Rattle.mount_rules.specs.Making as making
@@ -38,13 +57,7 @@ pub record IsAsked (step : Step) (op : Operation) : Type 0 where
 abbrev pub AsksAll : Step → Type 0
 AsksAll step = (op : Operation) → Allows step op → IsAsked step op
 
-done_asks : AsksAll done
-done_asks op allowed = absurd allowed
-
-ask_asks : (asked : Operation) → AsksAll (ask asked)
-ask_asks asked op allowed = record { asked = asked; is = refl; so = inl allowed }
-
-is_read : (source : Source) (op : Operation) → IsReadOf source op → IsRead op
+pub is_read : (source : Source) (op : Operation) → IsReadOf source op → IsRead op
 is_read source (read name generation first count) is = tt
 is_read source (stat name) is = absurd is
 is_read source (insert name content pairs only stamp) is = absurd is
@@ -53,88 +66,154 @@ is_read source (delete name only) is = absurd is
 is_read source (copy from generation to stamp) is = absurd is
 is_read source (list prefix slash max after) is = absurd is
 
+-- ---- each plan that reads no source, by its steps
+-- it may read a source
+abbrev pub MayReadSource : Request → Type 0
+MayReadSource (Read node fh first size) = Unit {0}
+MayReadSource (Write node fh first content) = Unit {0}
+MayReadSource (Flush node fh) = Unit {0}
+MayReadSource (Fsync node fh) = Unit {0}
+MayReadSource request = ⊥
+
+-- what holds where a plan is done, and where it asks for anything but a read
+module _ (P : Step → Type 0) (ends : P done) (asks : (op : Operation) → (IsRead op → ⊥) → P (ask op)) where
+  either_steps : (b : Bool) (one other : Step) → P one → P other → P (if b then one else other)
+  either_steps true one other first second = first
+  either_steps false one other first second = second
+
+  found_steps : {X : Type 0} (f : X → Step) (found : Option X) → ((x : X) → P (f x)) → P (option_map_or f found done)
+  found_steps f None each = ends
+  found_steps f (Some x) each = each x
+
+  making_steps : (name : List ℕ) (pairs : List Pair) (second : ℕ) (told : List Answer) → P (making.plan name pairs second told)
+  making_steps name pairs second [] = asks _ (λ e. e)
+  making_steps name pairs second (a ∷ more) = ends
+
+  standing_steps : (name : Option (List ℕ)) (told : List Answer) → P (standing.plan name told)
+  standing_steps None told = ends
+  standing_steps (Some name) [] = asks _ (λ e. e)
+  standing_steps (Some name) (a ∷ more) = ends
+
+  probe_steps : (implicit : Bool) (path : List ℕ) → P (ask (lookup.probe implicit path))
+  probe_steps true path = asks _ (λ e. e)
+  probe_steps false path = asks _ (λ e. e)
+
+  after_probe_steps : (path : List ℕ) (suffixed : Bool) (found : lookup.Probed) → P (lookup.after_probe path suffixed found)
+  after_probe_steps path suffixed lookup.present = either_steps suffixed _ _ (asks _ (λ e. e)) ends
+  after_probe_steps path suffixed lookup.absent = either_steps suffixed _ _ ends (asks _ (λ e. e))
+  after_probe_steps path suffixed lookup.failed = ends
+
+  lookup_steps : (implicit : Bool) (path : List ℕ) (suffixed : Bool) (told : List Answer) → P (lookup.plan implicit path suffixed told)
+  lookup_steps implicit path suffixed [] = probe_steps implicit path
+  lookup_steps implicit path suffixed (a ∷ []) = after_probe_steps path suffixed (lookup.probed a)
+  lookup_steps implicit path suffixed (a ∷ b ∷ more) = ends
+
+  opendir_steps : (prefix : List ℕ) (max : ℕ) (after : Option (List ℕ)) (told : List Answer) → P (opendir.plan prefix max after told)
+  opendir_steps prefix max after [] = asks _ (λ e. e)
+  opendir_steps prefix max after (answers.Page page ∷ more) = found_steps (λ key. opendir.plan prefix max (Some key) more) page.next (λ key. opendir_steps prefix max (Some key) more)
+  opendir_steps prefix max after (_ ∷ more) = ends
+
+  after_page_steps : (prefix : List ℕ) (found : rmdir.Inside) → P (rmdir.after_page prefix found)
+  after_page_steps prefix rmdir.empty = asks _ (λ e. e)
+  after_page_steps prefix rmdir.absent = ends
+  after_page_steps prefix rmdir.filled = ends
+
+  after_list_steps : (prefix : List ℕ) (a : Answer) → P (rmdir.after_list prefix a)
+  after_list_steps prefix (answers.Page page) = after_page_steps prefix (rmdir.inside prefix page.items)
+  after_list_steps prefix _ = ends
+
+  rmdir_steps : (prefix : List ℕ) (told : List Answer) → P (rmdir.plan prefix told)
+  rmdir_steps prefix [] = asks _ (λ e. e)
+  rmdir_steps prefix (a ∷ []) = after_list_steps prefix a
+  rmdir_steps prefix (a ∷ b ∷ more) = ends
+
+  unlink_steps : (path : List ℕ) (told : List Answer) → P (unlink.plan path told)
+  unlink_steps path [] = asks _ (λ e. e)
+  unlink_steps path (a ∷ more) = ends
+
+  after_stat_steps : (from to : List ℕ) (second : ℕ) (a : Answer) → P (rename.after_stat from to second a)
+  after_stat_steps from to second (answers.Meta meta) = asks _ (λ e. e)
+  after_stat_steps from to second _ = ends
+
+  after_copy_steps : (from : List ℕ) (told a : Answer) → P (rename.after_copy from told a)
+  after_copy_steps from (answers.Meta meta) (answers.Meta copied) = asks _ (λ e. e)
+  after_copy_steps from told a = ends
+
+  moving_steps : (implicit : Bool) (from to : List ℕ) (suffixed : Bool) (second : ℕ) (told : List Answer) → P (rename.moving_plan implicit from to suffixed second told)
+  moving_steps implicit from to suffixed second [] = probe_steps implicit from
+  moving_steps implicit from to suffixed second (a ∷ []) = after_probe_steps from suffixed (lookup.probed a)
+  moving_steps implicit from to suffixed second (a ∷ b ∷ []) = after_stat_steps from to second b
+  moving_steps implicit from to suffixed second (a ∷ b ∷ c ∷ []) = after_copy_steps from b c
+  moving_steps implicit from to suffixed second (a ∷ b ∷ c ∷ d ∷ more) = ends
+
+  rename_steps : (names : rename.Names) (taken : Taken) (told : List Answer) → P (rename.plan names taken told)
+  rename_steps names taken told = either_steps (rename.is_same names taken.view) _ _ ends (moving_steps _ _ _ _ _ told)
+
+  update_steps : (asked : setattr.Asked) (second : ℕ) (file : Sight) (told : List Answer) → P (setattr.update_plan asked second file told)
+  update_steps asked second file [] = asks _ (λ e. e)
+  update_steps asked second file (a ∷ more) = ends
+
+  setattr_steps : (asked : setattr.Asked) (second : ℕ) (view : View) (change : setattr.Change) (told : List Answer) → P (setattr.plan_by asked second view change told)
+  setattr_steps asked second view setattr.resize told = ends
+  setattr_steps asked second view setattr.stage_time told = ends
+  setattr_steps asked second view setattr.set_time told = found_steps (λ file. setattr.update_plan asked second file told) view.node (λ file. update_steps asked second file told)
+  setattr_steps asked second view setattr.look told = standing_steps (standing.asked_name view) told
+
+  rules_steps : (taken : Taken) (told : List Answer) (request : Request) → (MayReadSource request → ⊥) → P ((rules_of request).plan taken told)
+  rules_steps taken told (Lookup node name) other = lookup_steps _ _ _ told
+  rules_steps taken told (Getattr node) other = standing_steps _ told
+  rules_steps taken told (Setattr node valid size mtime nanos) other = setattr_steps (record { valid = valid; size = size; seconds = mtime; nanos = nanos }) taken.at.second taken.view _ told
+  rules_steps taken told (Opening node flags) other = standing_steps _ told
+  rules_steps taken told (Read node fh first size) other = absurd (other tt)
+  rules_steps taken told (Write node fh first content) other = absurd (other tt)
+  rules_steps taken told (Flush node fh) other = absurd (other tt)
+  rules_steps taken told (Fsync node fh) other = absurd (other tt)
+  rules_steps taken told (Opendir node) other = opendir_steps _ _ None told
+  rules_steps taken told (Create node name) other = making_steps _ _ _ told
+  rules_steps taken told (Symlink node name target) other = making_steps _ _ _ told
+  rules_steps taken told (Mknod node mode name) other = making_steps _ _ _ told
+  rules_steps taken told (Mkdir node name) other = making_steps _ _ _ told
+  rules_steps taken told (Unlink node name) other = unlink_steps _ told
+  rules_steps taken told (Rmdir node name) other = rmdir_steps _ told
+  rules_steps taken told (Rename node newdir name newname) other = rename_steps (record { name = name; newdir = newdir; newname = newname }) taken told
+  rules_steps taken told (Rename2 node newdir flags name newname) other = rename_steps (record { name = name; newdir = newdir; newname = newname }) taken told
+  rules_steps taken told (Forget node count) other = ends
+  rules_steps taken told (BatchForget pairs) other = ends
+  rules_steps taken told (Release node fh) other = ends
+  rules_steps taken told Statfs other = ends
+  rules_steps taken told (Init major minor readahead flags) other = ends
+  rules_steps taken told (Readdir node fh first size) other = ends
+  rules_steps taken told (Releasedir node fh) other = ends
+  rules_steps taken told (Fsyncdir node fh) other = ends
+  rules_steps taken told Destroy other = ends
+  rules_steps taken told (Readlink node) other = ends
+  rules_steps taken told Interrupt other = ends
+  rules_steps taken told (Unknown opcode) other = ends
+
+  pub plan_steps : (at : AtTake) (mount : MountModel) (request : Request) → (MayReadSource request → ⊥) → (told : List Answer) → P (plan at mount request told)
+  plan_steps at mount request other told = by (goes_on mount request)
+    where
+      by : (on : Bool) → P ((if on then (rules_of request).plan (taken_at at mount request) else (λ answers. done)) told)
+      by true = rules_steps (taken_at at mount request) told request other
+      by false = ends
+
+-- no read is made at the step
+abbrev pub AsksNoRead : Step → Type 0
+AsksNoRead step = (op : Operation) → IsRead op → Allows step op → ⊥
+
+pub plan_reads_nothing : (at : AtTake) (mount : MountModel) (request : Request) → (MayReadSource request → ⊥) → (told : List Answer) → AsksNoRead (plan at mount request told)
+plan_reads_nothing = plan_steps AsksNoRead (λ op reads allowed. allowed) (λ asked other op reads allowed. other (subst IsRead allowed reads))
+
+-- ---- what is asked
+done_asks : AsksAll done
+done_asks op allowed = absurd allowed
+
+ask_asks : (asked : Operation) → AsksAll (ask asked)
+ask_asks asked op allowed = record { asked = asked; is = refl; so = inl allowed }
+
 read_asks : (source : Source) (asked : Operation) → AsksAll (may_read source (ask asked))
 read_asks source asked op (inl its) = record { asked = asked; is = refl; so = inr (is_read source op its) }
 read_asks source asked op (inr allowed) = record { asked = asked; is = refl; so = inl allowed }
-
-either_asks : (b : Bool) (one other : Step) → AsksAll one → AsksAll other → AsksAll (if b then one else other)
-either_asks true one other first second = first
-either_asks false one other first second = second
-
-found_asks : {X : Type 0} (f : X → Step) (found : Option X) → ((x : X) → AsksAll (f x)) → AsksAll (option_map_or f found done)
-found_asks f None each = done_asks
-found_asks f (Some x) each = each x
-
--- ---- each plan
-making_asks : (name : List ℕ) (pairs : List Pair) (second : ℕ) (told : List Answer) → AsksAll (making.plan name pairs second told)
-making_asks name pairs second [] = ask_asks _
-making_asks name pairs second (a ∷ more) = done_asks
-
-standing_asks : (name : Option (List ℕ)) (told : List Answer) → AsksAll (standing.plan name told)
-standing_asks None told = done_asks
-standing_asks (Some name) [] = ask_asks _
-standing_asks (Some name) (a ∷ more) = done_asks
-
-after_probe_asks : (path : List ℕ) (suffixed : Bool) (found : lookup.Probed) → AsksAll (lookup.after_probe path suffixed found)
-after_probe_asks path suffixed lookup.present = either_asks suffixed _ _ (ask_asks _) done_asks
-after_probe_asks path suffixed lookup.absent = either_asks suffixed _ _ done_asks (ask_asks _)
-after_probe_asks path suffixed lookup.failed = done_asks
-
-lookup_asks : (implicit : Bool) (path : List ℕ) (suffixed : Bool) (told : List Answer) → AsksAll (lookup.plan implicit path suffixed told)
-lookup_asks implicit path suffixed [] = ask_asks _
-lookup_asks implicit path suffixed (a ∷ []) = after_probe_asks path suffixed (lookup.probed a)
-lookup_asks implicit path suffixed (a ∷ b ∷ more) = done_asks
-
-opendir_asks : (prefix : List ℕ) (max : ℕ) (after : Option (List ℕ)) (told : List Answer) → AsksAll (opendir.plan prefix max after told)
-opendir_asks prefix max after [] = ask_asks _
-opendir_asks prefix max after (answers.Page page ∷ more) = found_asks (λ key. opendir.plan prefix max (Some key) more) page.next (λ key. opendir_asks prefix max (Some key) more)
-opendir_asks prefix max after (_ ∷ more) = done_asks
-
-after_page_asks : (prefix : List ℕ) (found : rmdir.Inside) → AsksAll (rmdir.after_page prefix found)
-after_page_asks prefix rmdir.empty = ask_asks _
-after_page_asks prefix rmdir.absent = done_asks
-after_page_asks prefix rmdir.filled = done_asks
-
-after_list_asks : (prefix : List ℕ) (a : Answer) → AsksAll (rmdir.after_list prefix a)
-after_list_asks prefix (answers.Page page) = after_page_asks prefix (rmdir.inside prefix page.items)
-after_list_asks prefix _ = done_asks
-
-rmdir_asks : (prefix : List ℕ) (told : List Answer) → AsksAll (rmdir.plan prefix told)
-rmdir_asks prefix [] = ask_asks _
-rmdir_asks prefix (a ∷ []) = after_list_asks prefix a
-rmdir_asks prefix (a ∷ b ∷ more) = done_asks
-
-unlink_asks : (path : List ℕ) (told : List Answer) → AsksAll (unlink.plan path told)
-unlink_asks path [] = ask_asks _
-unlink_asks path (a ∷ more) = done_asks
-
-after_stat_asks : (from to : List ℕ) (second : ℕ) (a : Answer) → AsksAll (rename.after_stat from to second a)
-after_stat_asks from to second (answers.Meta meta) = ask_asks _
-after_stat_asks from to second _ = done_asks
-
-after_copy_asks : (from : List ℕ) (told a : Answer) → AsksAll (rename.after_copy from told a)
-after_copy_asks from (answers.Meta meta) (answers.Meta copied) = ask_asks _
-after_copy_asks from told a = done_asks
-
-moving_asks : (implicit : Bool) (from to : List ℕ) (suffixed : Bool) (second : ℕ) (told : List Answer) → AsksAll (rename.moving_plan implicit from to suffixed second told)
-moving_asks implicit from to suffixed second [] = ask_asks _
-moving_asks implicit from to suffixed second (a ∷ []) = after_probe_asks from suffixed (lookup.probed a)
-moving_asks implicit from to suffixed second (a ∷ b ∷ []) = after_stat_asks from to second b
-moving_asks implicit from to suffixed second (a ∷ b ∷ c ∷ []) = after_copy_asks from b c
-moving_asks implicit from to suffixed second (a ∷ b ∷ c ∷ d ∷ more) = done_asks
-
-rename_asks : (names : rename.Names) (taken : Taken) (told : List Answer) → AsksAll (rename.plan names taken told)
-rename_asks names taken told = either_asks (rename.is_same names taken.view) _ _ done_asks (moving_asks _ _ _ _ _ told)
-
-update_asks : (asked : setattr.Asked) (second : ℕ) (file : Sight) (told : List Answer) → AsksAll (setattr.update_plan asked second file told)
-update_asks asked second file [] = ask_asks _
-update_asks asked second file (a ∷ more) = done_asks
-
-setattr_asks : (asked : setattr.Asked) (second : ℕ) (view : View) (change : setattr.Change) (told : List Answer) → AsksAll (setattr.plan_by asked second view change told)
-setattr_asks asked second view setattr.resize told = done_asks
-setattr_asks asked second view setattr.stage_time told = done_asks
-setattr_asks asked second view setattr.set_time told = found_asks (λ file. setattr.update_plan asked second file told) view.node (λ file. update_asks asked second file told)
-setattr_asks asked second view setattr.look told = standing_asks (standing.asked_name view) told
 
 after_reads_asks : (source : Source) (op : Operation) (told : List Answer) → AsksAll (flush.after_reads source op told)
 after_reads_asks source op [] = read_asks source op
@@ -142,52 +221,26 @@ after_reads_asks source op (answers.Bytes bytes ∷ more) = after_reads_asks sou
 after_reads_asks source op (_ ∷ more) = done_asks
 
 flush_asks : (taken : Taken) (told : List Answer) → AsksAll (flush.plan taken told)
-flush_asks taken told =
-    found_asks _ taken.view.staged
-    (λ (staged : StagedContent). found_asks (λ file. flush.after_reads (source_of file) (flush.insert_of taken.at.contents taken.at.second taken.view.kept staged file) told) taken.view.node
-    (λ file. after_reads_asks (source_of file) _ told))
-
--- ---- every request
--- it may read a source before it ends
-abbrev pub ReadsLast : Request → Type 0
-ReadsLast (Read node fh first size) = Unit {0}
-ReadsLast (Write node fh first content) = Unit {0}
-ReadsLast request = ⊥
-
-rules_ask : (taken : Taken) (told : List Answer) (request : Request) → (ReadsLast request → ⊥) → AsksAll ((rules_of request).plan taken told)
-rules_ask taken told (Lookup node name) other = lookup_asks _ _ _ told
-rules_ask taken told (Getattr node) other = standing_asks _ told
-rules_ask taken told (Setattr node valid size mtime nanos) other = setattr_asks (record { valid = valid; size = size; seconds = mtime; nanos = nanos }) taken.at.second taken.view _ told
-rules_ask taken told (Opening node flags) other = standing_asks _ told
-rules_ask taken told (Read node fh first size) other = absurd (other tt)
-rules_ask taken told (Write node fh first content) other = absurd (other tt)
-rules_ask taken told (Flush node fh) other = flush_asks taken told
-rules_ask taken told (Fsync node fh) other = flush_asks taken told
-rules_ask taken told (Opendir node) other = opendir_asks _ _ None told
-rules_ask taken told (Create node name) other = making_asks _ _ _ told
-rules_ask taken told (Symlink node name target) other = making_asks _ _ _ told
-rules_ask taken told (Mknod node mode name) other = making_asks _ _ _ told
-rules_ask taken told (Mkdir node name) other = making_asks _ _ _ told
-rules_ask taken told (Unlink node name) other = unlink_asks _ told
-rules_ask taken told (Rmdir node name) other = rmdir_asks _ told
-rules_ask taken told (Rename node newdir name newname) other = rename_asks (record { name = name; newdir = newdir; newname = newname }) taken told
-rules_ask taken told (Rename2 node newdir flags name newname) other = rename_asks (record { name = name; newdir = newdir; newname = newname }) taken told
-rules_ask taken told (Forget node count) other = done_asks
-rules_ask taken told (BatchForget pairs) other = done_asks
-rules_ask taken told (Release node fh) other = done_asks
-rules_ask taken told Statfs other = done_asks
-rules_ask taken told (Init major minor readahead flags) other = done_asks
-rules_ask taken told (Readdir node fh first size) other = done_asks
-rules_ask taken told (Releasedir node fh) other = done_asks
-rules_ask taken told (Fsyncdir node fh) other = done_asks
-rules_ask taken told Destroy other = done_asks
-rules_ask taken told (Readlink node) other = done_asks
-rules_ask taken told Interrupt other = done_asks
-rules_ask taken told (Unknown opcode) other = done_asks
-
-pub plan_asks : (at : AtTake) (mount : MountModel) (request : Request) → (ReadsLast request → ⊥) → (told : List Answer) → AsksAll (plan at mount request told)
-plan_asks at mount request other told = by (goes_on mount request)
+flush_asks taken told = staged_asks taken.view.staged taken.view.node
   where
-    by : (on : Bool) → AsksAll ((if on then (rules_of request).plan (taken_at at mount request) else (λ answers. done)) told)
-    by true = rules_ask (taken_at at mount request) told request other
+    staged_asks : (held : Option StagedContent) (seen : Option Sight)
+        → AsksAll (option_map_or (λ staged. option_map_or (λ file. flush.after_reads (source_of file) (flush.insert_of taken.at.contents taken.at.second taken.view.kept staged file) told) seen done)
+        held done)
+    staged_asks None seen = done_asks
+    staged_asks (Some staged) None = done_asks
+    staged_asks (Some staged) (Some file) = after_reads_asks (source_of file) _ told
+
+pub plan_asks : (at : AtTake) (mount : MountModel) (request : Request) → (IsReadOrWrite request → ⊥) → (told : List Answer) → AsksAll (plan at mount request told)
+plan_asks at mount (Read node fh first size) other told = absurd (other tt)
+plan_asks at mount (Write node fh first content) other told = absurd (other tt)
+plan_asks at mount (Flush node fh) other told = by (goes_on mount (Flush node fh))
+  where
+    by : (on : Bool) → AsksAll ((if on then flush.plan (taken_at at mount (Flush node fh)) else (λ answers. done)) told)
+    by true = flush_asks (taken_at at mount (Flush node fh)) told
     by false = done_asks
+plan_asks at mount (Fsync node fh) other told = by (goes_on mount (Fsync node fh))
+  where
+    by : (on : Bool) → AsksAll ((if on then flush.plan (taken_at at mount (Fsync node fh)) else (λ answers. done)) told)
+    by true = flush_asks (taken_at at mount (Fsync node fh)) told
+    by false = done_asks
+plan_asks at mount request other told = plan_steps AsksAll done_asks (λ asked none. ask_asks asked) at mount request (λ may. absurd may) told

@@ -10,7 +10,7 @@ use Rattle.bucket_api.specs.declared.answers.Answer.TheVariants as answers
 use Rattle.fuse_replies.specs.declared.reply.Reply.TheVariants.{Error}
 use Rattle.fuse_requests.specs.declared.request.Request.{Request}
 use Rattle.fuse_requests.specs.declared.request.Request.TheVariants.{Flush, Fsync}
-use Rattle.history_laws.proofs.Along.{Stands, contents_same, files_whole}
+use Rattle.history_laws.proofs.Along.{Stands, contents_same, source_numbered}
 use Rattle.history_laws.proofs.FlushWalks.{walked}
 use Rattle.history_laws.proofs.LastCalls.{done_last}
 use Rattle.history_laws.proofs.ReadLaws.{content_by, seen_at_take, stands_last}
@@ -22,9 +22,7 @@ use Rattle.history_spec.specs.Fits.{MayBeDone, plan_of}
 use Rattle.history_spec.specs.JournalState.{reached, reply_by}
 use Rattle.mount_laws.proofs.Guarding.{on_open_file-none}
 use Rattle.mount_laws.proofs.Keeping.{same_Some}
-use Rattle.mount_laws.proofs.Lengths.{was_live}
 use Rattle.mount_laws.proofs.RequestLaws.{unrefused}
-use Rattle.mount_laws.proofs.StagedContents.{SeesFileAt-seen}
 use Rattle.mount_model.specs.Observing.{Observed}
 use Rattle.mount_model.specs.declared.config.Config.{Config}
 use Rattle.mount_model.specs.declared.journal.How.TheVariants as how
@@ -94,10 +92,7 @@ module _ (config : Config) (start : BucketState) (log : List LogEvent) (account 
 
   -- the generation that the file shows was given
   numbered : is_directory file.kind ≡ false → 1 ≤ file.source
-  numbered is_file =
-      let s = SeesFileAt-seen mount node file standing.is seen_file is_file in
-      let has = files_whole start log (reached config start log account) standing node s.node s.file s.there s.is in
-      subst (λ n. 1 ≤ n) (sym s.source) (was_live start log s.node.name s.file.source has.0 last.bucket last.allowed has.1).numbered
+  numbered = source_numbered start log (reached config start log account) standing last.bucket last.allowed node file seen_file
 
   of_flush : GoesAsFlush at mount node e.call.taken.request → MayBeDone start log (reached config start log account) e.call e.front how.Ok e.items
       → AllByRecursion (λ (o : Observed). o.answer ≢ answers.Fault) (seen_at start log e)

@@ -1,7 +1,17 @@
 -- The promises along accounts.
+pub mod AgreementLaws
+pub mod Alike
+pub mod AloneWalks
 pub mod Along
 pub mod ApartLaws
 pub mod Asking
+pub mod Bare
+pub mod BareAnswered
+pub mod BareEnds
+pub mod BareMounts
+pub mod BareRequests
+pub mod BareSteps
+pub mod CallPairs
 pub mod FlushLaws
 pub mod FlushWalks
 pub mod Generations
@@ -9,6 +19,11 @@ pub mod LastCalls
 pub mod Moments
 pub mod NodeLaws
 pub mod OneByOneLaws
+pub mod OneCalls
 pub mod OpenLaws
 pub mod ReadLaws
+pub mod ReadingPlans
+pub mod SameStores
+pub mod SerialCalls
+pub mod SourceReaders
 pub mod WalkTells

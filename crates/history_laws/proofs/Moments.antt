@@ -15,7 +15,7 @@ use Rattle.mount_laws.proofs.Keeping.{no_Some, same_Some}
 use Rattle.mount_model.specs.Observing.{Observed}
 
 -- an event has its effect on what the log had made before
-position_step : (start : BucketState) (log : List LogEvent) (k : ℕ) (e : LogEvent) → slice_get log k ≡ Some e → state_at start log (suc k) ≡ state_by e.mode e.op (state_at start log k)
+pub position_step : (start : BucketState) (log : List LogEvent) (k : ℕ) (e : LogEvent) → slice_get log k ≡ Some e → state_at start log (suc k) ≡ state_by e.mode e.op (state_at start log k)
 position_step start [] k e there = absurd (no_Some there)
 position_step start (x ∷ log) zero e there = ap (λ (y : LogEvent). state_by y.mode y.op start) (same_Some there)
 position_step start (x ∷ log) (suc k) e there = position_step (state_by x.mode x.op start) log k e there

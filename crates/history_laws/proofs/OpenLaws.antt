@@ -106,7 +106,8 @@ module _ (config : Config) (start : BucketState) (log : List LogEvent) (account 
       since = (subst (λ (moments : List ℕ). AllByRecursion (λ m. (e.call.front < m) × (m ≤ e.front)) moments) (sym mine ∙ own)
           (own_between log e.call.call.lane e.call.front e.front)).0.0
 
-      fresh : (meta : Metadata) → meta.generation ≡ file.source → (o : Object) × (object_at (state_by t.event.mode (stat file.name) (before_moment start log (moment_of item))) file.name ≡ Some o) × (o.meta ≡ meta)
+      fresh : (meta : Metadata) → meta.generation ≡ file.source →
+          (o : Object) × (object_at (state_by t.event.mode (stat file.name) (before_moment start log (moment_of item))) file.name ≡ Some o) × (o.meta ≡ meta)
           → IsFresh start log file e.call.front (own_moments_of e.items)
       fresh meta shows (o, live, is_meta) =
           let there : object_at (state_at start log (moment_of item)) file.name ≡ Some o = ap (λ b. object_at b file.name) after ∙ live in
@@ -178,7 +179,8 @@ module _ (config : Config) (start : BucketState) (log : List LogEvent) (account 
         (subst (λ (p : Plan). Walked start log e.call p e.items) is
         (Walked-walks start log e.call (plan_of (reached config start log account) e.call) e.items may.walk.told may.walk.walked))
         (subst (λ (p : Plan). MayEnd (p (answers_of (seen_by start log e.items)))) is may.ends) may.walk.own
-        (sym (ap (λ (x : Option ℕ). option_map_or Error x (opening.reply_to mount (standing.standing (standing.generation_seen (sight_at mount.table node)) (answers_of (seen_by start log e.items))))) free
+        (sym (ap (λ (x : Option ℕ). option_map_or Error x (opening.reply_to mount (standing.standing (standing.generation_seen (sight_at mount.table node)) (answers_of (seen_by start log e.items)))))
+        free
         ∙ ap (λ seen. opening.reply_to mount (standing.standing (standing.generation_seen seen) (answers_of (seen_by start log e.items)))) seen_file) ∙ told)
 
 pub opens_are_fresh : OpensAreFresh

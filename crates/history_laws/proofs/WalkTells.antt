@@ -15,8 +15,9 @@ use Rattle.bucket_api.specs.declared.events.Mode.TheVariants as modes
 use Rattle.bucket_api.specs.declared.objects.Object.{Object}
 use Rattle.fuse_requests.specs.declared.request.Request.{Request}
 use Rattle.fuse_requests.specs.declared.request.Request.TheVariants.{Read, Write}
-use Rattle.history_laws.proofs.Asking.{AsksAll, IsAsked, ReadsLast, plan_asks}
+use Rattle.history_laws.proofs.Asking.{AsksAll, IsAsked, plan_asks}
 use Rattle.history_laws.proofs.Moments.{Told, moment_step, state_cut, told_at}
+use Rattle.history_laws.specs.Agreements.{IsReadOrWrite}
 use Rattle.history_laws.specs.Flushes.{before_moment}
 use Rattle.history_spec.proofs.Following.{walk_within}
 use Rattle.history_spec.proofs.Walking.{Walked, Walked-walks}
@@ -40,7 +41,7 @@ use Rattle.mount_rules.specs.Rules.{AtTake, Taken}
 use Rattle.mount_rules.specs.View.{Sight}
 
 -- ---- requests that read a source last leave the nodes as they are
-reads_last : (request : Request) → ReadsLast request ⊎ (ReadsLast request → ⊥)
+reads_last : (request : Request) → IsReadOrWrite request ⊎ (IsReadOrWrite request → ⊥)
 reads_last (Read node fh first size) = inl tt
 reads_last (Write node fh first content) = inl tt
 reads_last _ = inr (λ e. e)
@@ -56,7 +57,7 @@ written_table taken mount node first bytes write.full = refl
 written_table taken mount node first bytes write.stale = refl
 written_table taken mount node first bytes write.fault = refl
 
-last_table : (at : AtTake) (mount : MountModel) (seen : List Observed) (request : Request) → ReadsLast request → (mount_after at mount request seen).table ≡ mount.table
+last_table : (at : AtTake) (mount : MountModel) (seen : List Observed) (request : Request) → IsReadOrWrite request → (mount_after at mount request seen).table ≡ mount.table
 last_table at mount seen (Read node fh first size) last = by (goes_on mount (Read node fh first size))
   where
     by : (on : Bool) → (if on then mount else mount).table ≡ mount.table
@@ -139,7 +140,7 @@ module _ (start : BucketState) (log : List LogEvent) (bucket : IsBucket start) (
   nodes_done state o how.NoMemory items is may = NodesFrom-same HasBy state.mount.table
   nodes_done state o how.Ok items is may = by (reads_last o.taken.request)
     where
-      by : ReadsLast o.taken.request ⊎ (ReadsLast o.taken.request → ⊥)
+      by : IsReadOrWrite o.taken.request ⊎ (IsReadOrWrite o.taken.request → ⊥)
           → NodesFrom HasBy state.mount.table (mount_after o.taken.at state.mount o.taken.request (seen_by start log items)).table
       by (inl last) = subst (NodesFrom HasBy state.mount.table) (sym (last_table o.taken.at state.mount (seen_by start log items) o.taken.request last))
           (NodesFrom-same HasBy state.mount.table)

@@ -5,3 +5,4 @@ pub mod Nodes
 pub mod Reads
 pub mod Flushes
 pub mod Opens
+pub mod Agreements

@@ -26,7 +26,7 @@ use Rattle.scenario.specs.Parts.{ScenarioData}
 use Rattle.scenario.specs.declared.call.Fix.{Fix}
 
 -- ---- frames
-reply_stays : (replies more : Replies) (call : CallId) → IsSome (reply_of replies call) → reply_of (replies ++ more) call ≡ reply_of replies call
+pub reply_stays : (replies more : Replies) (call : CallId) → IsSome (reply_of replies call) → reply_of (replies ++ more) call ≡ reply_of replies call
 reply_stays replies more call some =
     ap (option_map (λ (r : CallId × Reply). r.1)) (find-append (λ (r : CallId × Reply). is_call r.0 call) replies more) ∙ by (find (λ (r : CallId × Reply). is_call r.0 call) replies) some
   where

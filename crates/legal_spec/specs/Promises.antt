@@ -10,6 +10,7 @@ use Rattle.bucket_api.specs.Operation.{IsAllowed, Operation}
 use Rattle.bucket_api.specs.declared.answers.Answer.TheVariants.{Fault}
 use Rattle.fuse_replies.specs.declared.reply.Reply.TheVariants.{Content, Opened}
 use Rattle.fuse_requests.specs.declared.request.Request.TheVariants.{Opening, Read}
+use Rattle.history_laws.specs.Agreements.{Agrees, StaleWantBytes}
 use Rattle.history_laws.specs.Ends.{CallEnd, over, reply_at, seen_at, turn_of}
 use Rattle.history_laws.specs.Flushes.{IsGuarded}
 use Rattle.history_laws.specs.Nodes.{count_of}
@@ -31,8 +32,9 @@ use Rattle.mount_model.specs.declared.journal.How.TheVariants as how
 use Rattle.mount_rules.specs.Dispatch.{early}
 use Rattle.mount_rules.specs.Laws.{AreOfContent, IsFlushOf, content_at}
 use Rattle.mount_rules.specs.Mount.{MountModel}
+use Rattle.mount_rules.specs.OneThread as one_thread
 use Rattle.mount_rules.specs.View.{Sight, sight_at}
-use Rattle.scenario.specs.Parts.{Call, Lane, ScenarioData}
+use Rattle.scenario.specs.Parts.{Call, Lane, ScenarioData, calls}
 use Rattle.scenario.specs.declared.call.Fix.{Fix}
 use Rattle.staging_spec.specs.StagedFiles.{StagedContent}
 
@@ -127,3 +129,23 @@ FreshOpen = (scenario : ScenarioData) (log : List LogEvent) (journal : List Entr
     → sight_at (mount_then scenario log turns).table node ≡ Some file → fin.get (mount_then scenario log turns).staged node ≡ None
     → reply_at scenario.start log (mount_then scenario log turns) e ≡ Opened fh
     → IsFresh scenario.start log file e.call.front (own_moments_of e.items)
+
+-- ---- one lane
+-- the phase has no lane, or one, which makes calls
+abbrev pub HasOneLane : List Lane → Type 0
+HasOneLane [] = Unit {0}
+HasOneLane (calls cs ∷ []) = Unit {0}
+HasOneLane lanes = ⊥
+
+-- The scenario has one lane at a time, of calls: no remote writer, no clock, and no scripted fault.
+pub record IsOneLane (scenario : ScenarioData) : Type 0 where
+  pub phases : AllByRecursion HasOneLane scenario.phases
+  pub script : scenario.script ≡ []
+
+-- Agreement: a legal history of such a scenario, in which each READ and each WRITE that is answered ESTALE wants a byte, is
+-- one of the one-thread mount. That has a run over the same bucket, with the same requests, the same replies and the same
+-- bucket at its end.
+abbrev pub OneLaneAgrees : Type 0
+OneLaneAgrees = (scenario : ScenarioData) (log : List LogEvent) (journal : List Entry) (legal : Legal scenario log journal)
+    → IsBucket scenario.start → All (λ e. IsAllowed e.op) log → IsOneLane scenario → StaleWantBytes scenario.config scenario.start log legal.fits.account
+    → (made : List one_thread.Call) × Agrees scenario.config scenario.start log legal.fits.account made

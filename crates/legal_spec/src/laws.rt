@@ -7,7 +7,8 @@ ghost use Rattle.legal_spec.specs.Promises as promises;
 /// is printed has a reply frame for each call. A node is live exactly while the kernel holds look-ups of it. Where no two
 /// calls under way had claims that conflict, a READ that is answered bytes is answered those of its file's content; a flush
 /// of staged content makes one new generation where the one that its file shows is live, and else nothing; and an OPEN sees
-/// that the generation which its file shows is live, where records of objects serve for no time.
+/// that the generation which its file shows is live, where records of objects serve for no time. A history with one lane
+/// of calls at a time, and without failures, agrees with a run of the one-thread mount.
 pub fn legal_laws()
     ensures merged { promises.LanesInOrder }
     ensures calls { promises.CallsAreDone }
@@ -18,4 +19,5 @@ pub fn legal_laws()
     ensures reads { promises.ContentOfReads }
     ensures flushes { promises.GuardedFlush }
     ensures opens { promises.FreshOpen }
+    ensures agrees { promises.OneLaneAgrees }
 {}

@@ -1,4 +1,5 @@
 -- Each promise along accounts is a lemma.
+use Rattle.history_laws.proofs.AgreementLaws.{one_thread_agrees}
 use Rattle.history_laws.proofs.FlushLaws.{flushes_are_guarded}
 use Rattle.history_laws.proofs.NodeLaws.{counts_decide}
 use Rattle.history_laws.proofs.OpenLaws.{opens_are_fresh}
@@ -16,3 +17,6 @@ returns-clause-opens c = opens_are_fresh
 
 pub returns-clause-flushes : goal.returns-clause-flushes
 returns-clause-flushes c = flushes_are_guarded
+
+pub returns-clause-agrees : goal.returns-clause-agrees
+returns-clause-agrees c = one_thread_agrees

@@ -2,6 +2,7 @@
 use Rattle.legal_spec.proofs.CompleteLaws.{calls_are_done}
 use Rattle.legal_spec.proofs.MadeLaws.{covered_is_made}
 use Rattle.legal_spec.proofs.Merging.{in_order}
+use Rattle.legal_spec.proofs.OneLaneLaws.{one_lane_agrees}
 use Rattle.legal_spec.proofs.PromiseLaws.{content_of_reads, frames_stay, fresh_open, guarded_flush, live_nodes}
 use Rattle.legal_spec.proofs.TextLaws.{histories_are_played}
 use Rattle.legal_spec.proofs.laws.legal_laws.Goals as goal
@@ -32,3 +33,6 @@ returns-clause-played c = histories_are_played
 
 pub returns-clause-made : goal.returns-clause-made
 returns-clause-made c = covered_is_made
+
+pub returns-clause-agrees : goal.returns-clause-agrees
+returns-clause-agrees c = one_lane_agrees
