@@ -1,69 +1,67 @@
--- While an errand asks on, it has made nothing but look-ups, copies and lists; and so has a listing to its end.
-use Rattle.std.proofs.Common.{◌≢◌, ℕ, List, [], ◌∷◌, None, refl}
+-- A listing has made nothing but lists, to its end; and what a bucket answers fits the operation.
+use Rattle.std.proofs.Common.{◌≢◌, ℕ, Bool, true, false, List, [], ◌∷◌, Option, Some, None, take, drop, subst, sym}
 use Rattle.std.specs.List.{AllByRecursion}
-use Rattle.mount_core.specs.Errands.{IsListing, IsWalked, plan_of}
-use Rattle.mount_core.specs.Stores.{Counted}
-use Rattle.mount_core.specs.Walks.{Stops, StopsAsking, Walks}
+use Rattle.std.specs.Option.{option_map_or}
+use Rattle.std.specs.Prelude.{if◌then◌else◌}
+use Rattle.bucket_api.specs.BucketState.{BucketState, generation_at, object_at, object_of}
+use Rattle.bucket_api.specs.BucketStep.{answer_to, is_met, may_update, new_object, refused, updated_object}
+use Rattle.bucket_api.specs.Operation.{Operation, copy, delete, insert, list, read, stat, update}
+use Rattle.bucket_api.specs.declared.answers.Answer.{Answer}
+use Rattle.bucket_api.specs.declared.answers.Answer.TheVariants as answers
+use Rattle.bucket_api.specs.declared.objects.Object.{Object}
+use Rattle.mount_core.specs.Errands.{IsListing, plan_over}
 use Rattle.mount_core.specs.declared.errand.Errand.{Errand}
-use Rattle.mount_core.specs.declared.errand.Errand.TheVariants.{Nothing, Names, Files, Flush}
-use Rattle.mount_core.proofs.WalkLemmas.{asks_first}
+use Rattle.mount_core.specs.declared.errand.Errand.TheVariants.{Names}
 use Rattle.mount_laws.proofs.Asking.{harmless_all}
-use Rattle.mount_laws.proofs.Requests.Lookup.{asks_harmless}
 use Rattle.mount_laws.proofs.Requests.Opendir.{asks_lists}
-use Rattle.mount_laws.proofs.Requests.Rename.{harmless_moving}
-use Rattle.mount_laws.proofs.Requests.Rmdir.{rmdir_harmless}
 use Rattle.mount_model.specs.Observing.{Observed}
-use Rattle.mount_rules.specs.Laws.{Planned}
-use Rattle.mount_rules.specs.Plans.{IsHarmless, answers_of, done}
-use Rattle.object_names.specs.Paths.{dir_prefix_of}
-use Rattle.plan_files.specs.declared.errand.FileErrand.TheVariants as File
-use Rattle.plan_files.specs.declared.errand.FileErrand.TheVariants.{Attr, Source, Touch}
-use Rattle.plan_names.specs.declared.errand.NameErrand.TheVariants.{Lookup, Make, Opendir, Rename, Rmdir, Unlink}
+use Rattle.mount_rules.specs.Laws.{IsAnswerTo, Planned}
+use Rattle.mount_rules.specs.OneThread.{Observes, Store, after_operation, bucket_of}
+use Rattle.mount_rules.specs.Plans.{Contents, IsHarmless, Plan, done, plan_after}
+use Rattle.plan_names.specs.declared.errand.NameErrand.TheVariants.{Opendir}
 
-abbrev AreHarmless : List Observed → Type 0
-AreHarmless seen = AllByRecursion (λ (o : Observed). IsHarmless o.op) seen
+-- ---- a listing
+pub record ListsAlone (plan : Plan) (seen : List Observed) : Type 0 where
+  pub asks : plan [] ≢ done
+  pub harmless : AllByRecursion (λ (o : Observed). IsHarmless o.op) seen
 
-harmless_asking : (errand : Errand) (second : ℕ) (seen : List Observed) → IsWalked errand → Planned (plan_of errand [] second) seen → plan_of errand [] second (answers_of seen) ≢ done → AreHarmless seen
-harmless_asking Nothing second seen walked planned asks = absurd (asks refl)
-harmless_asking (Names (Lookup path suffix implicit)) second seen walked planned asks = harmless_all (plan_of (Names (Lookup path suffix implicit)) [] second) (asks_harmless implicit path suffix) seen planned
-harmless_asking (Names (Make name pairs)) second [] walked planned asks = tt
-harmless_asking (Names (Make name pairs)) second (o ∷ seen) walked planned asks = absurd (asks refl)
-harmless_asking (Names (Unlink path)) second [] walked planned asks = tt
-harmless_asking (Names (Unlink path)) second (o ∷ seen) walked planned asks = absurd (asks refl)
-harmless_asking (Names (Rmdir path)) second seen walked planned asks = rmdir_harmless (dir_prefix_of path) seen planned asks
-harmless_asking (Names (Rename from to suffix implicit)) second seen walked planned asks = harmless_moving implicit from to suffix second seen planned asks
-harmless_asking (Names (Opendir prefix page)) second seen walked planned asks = harmless_all (plan_of (Names (Opendir prefix page)) [] second) (asks_lists prefix page None) seen planned
-harmless_asking (Files (Attr name)) second [] walked planned asks = tt
-harmless_asking (Files (Attr name)) second (o ∷ seen) walked planned asks = absurd (asks refl)
-harmless_asking (Files (Source name generation wanted)) second seen walked planned asks = absurd (asks refl)
-harmless_asking (Files (Touch name generation seconds nanos)) second [] walked planned asks = tt
-harmless_asking (Files (Touch name generation seconds nanos)) second (o ∷ seen) walked planned asks = absurd (asks refl)
-harmless_asking (Files (File.Flush name generation wanted pairs)) second seen walked planned asks = absurd walked
-harmless_asking (Flush errand frozen) second seen walked planned asks = absurd walked
-
--- a walk that stopped on its way is short
-pub Stops-asking : (errand : Errand) (second : ℕ) (before after : Counted) → IsWalked errand → StopsAsking (plan_of errand [] second) before after → Stops (plan_of errand [] second) before after
-Stops-asking errand second before after walked stops = record {
-  seen = stops.seen;
-  walked = stops.walked;
-  asks = λ planned. asks_first (plan_of errand [] second) stops.seen planned stops.asks_on;
-  harmless = λ planned. harmless_asking errand second stops.seen walked planned stops.asks_on;
+pub lists_alone : (errand : Errand) (contents : Contents) (second : ℕ) (seen : List Observed) → IsListing errand → Planned (plan_over errand contents second) seen
+    → ListsAlone (plan_over errand contents second) seen
+lists_alone (Names (Opendir prefix page)) contents second seen lists planned = record {
+  asks = λ e. cc;
+  harmless = harmless_all (plan_over (Names (Opendir prefix page)) contents second) (asks_lists prefix page None) seen planned;
 }
+lists_alone _ contents second seen lists planned = absurd lists
 
--- and so is a listing whose entries found no memory
-pub Stops-listed : (errand : Errand) (second : ℕ) (before after : Counted) (seen : List Observed) → IsListing errand → Walks (plan_of errand [] second) before seen after
-    → Stops (plan_of errand [] second) before after
-Stops-listed (Names (Opendir prefix page)) second before after seen lists walked = record {
-  seen = seen;
-  walked = walked;
-  asks = λ planned e. cc;
-  harmless = λ planned. harmless_all (plan_of (Names (Opendir prefix page)) [] second) (asks_lists prefix page None) seen planned;
-}
-Stops-listed (Names (Lookup path suffix implicit)) second before after seen lists walked = absurd lists
-Stops-listed (Names (Make name pairs)) second before after seen lists walked = absurd lists
-Stops-listed (Names (Unlink path)) second before after seen lists walked = absurd lists
-Stops-listed (Names (Rmdir path)) second before after seen lists walked = absurd lists
-Stops-listed (Names (Rename from to suffix implicit)) second before after seen lists walked = absurd lists
-Stops-listed (Files errand) second before after seen lists walked = absurd lists
-Stops-listed (Flush errand frozen) second before after seen lists walked = absurd lists
-Stops-listed Nothing second before after seen lists walked = absurd lists
+-- ---- what a bucket answers
+module _ (op : Operation) where
+  by_live : (found : Object → Answer) (other : Answer) → IsAnswerTo op other → ((o : Object) → IsAnswerTo op (found o)) → (live : Option Object) → IsAnswerTo op (option_map_or found live other)
+  by_live found other none each None = none
+  by_live found other none each (Some o) = each o
+
+  by_test : (yes_ no_ : Answer) → IsAnswerTo op yes_ → IsAnswerTo op no_ → (met : Bool) → IsAnswerTo op (if met then yes_ else no_)
+  by_test yes_ no_ y n true = y
+  by_test yes_ no_ y n false = n
+
+pub answer_fits : (op : Operation) (b : BucketState) → IsAnswerTo op (answer_to op b)
+answer_fits (stat name) b = by_live (stat name) (λ o. answers.Meta o.meta) answers.NotFound tt (λ o. tt) (object_at b name)
+answer_fits (read name generation first count) b =
+    by_live (read name generation first count) (λ o. answers.Bytes (take count (drop first o.content))) answers.NotFound tt (λ o. tt) (object_of b name generation)
+answer_fits (insert name content pairs only stamp) b =
+    by_test (insert name content pairs only stamp) (answers.Meta (new_object b name content pairs stamp).meta) (refused b name) tt tt (is_met only (generation_at b name))
+answer_fits (update name pairs only only_meta stamp) b =
+    by_live (update name pairs only only_meta stamp) (λ o. if may_update only only_meta o then answers.Meta (updated_object pairs stamp o).meta else refused b name) answers.NotFound tt
+    (λ o. by_test (update name pairs only only_meta stamp) (answers.Meta (updated_object pairs stamp o).meta) (refused b name) tt tt (may_update only only_meta o)) (object_at b name)
+answer_fits (delete name only) b =
+    by_live (delete name only) (λ o. if is_met only o.meta.generation then answers.Done else refused b name) answers.NotFound tt
+    (λ o. by_test (delete name only) answers.Done (refused b name) tt tt (is_met only o.meta.generation)) (object_at b name)
+answer_fits (copy from generation to stamp) b =
+    by_live (copy from generation to stamp) (λ o. answers.Meta (new_object b to o.content o.meta.pairs stamp).meta) answers.NotFound tt (λ o. tt) (object_of b from generation)
+answer_fits (list prefix slash max after) b = tt
+
+pub answers_fit : (plan : Plan) (store : Store) (seen : List Observed) → Observes plan store seen → AllByRecursion (λ (o : Observed). IsAnswerTo o.op o.answer) seen
+answers_fit plan store [] observed = tt
+answers_fit plan store (o ∷ seen) observed = (
+  subst (IsAnswerTo o.op) (sym observed.0.answer) (answer_fits o.op (bucket_of store)),
+  answers_fit (plan_after plan o.answer) (after_operation store o.op) seen observed.1,
+)

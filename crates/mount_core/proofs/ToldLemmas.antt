@@ -50,7 +50,7 @@ by_test : (met : Bool) (yes_ no_ : Answer) → TellsInOrder yes_ → TellsInOrde
 by_test true yes_ no_ y n = y
 by_test false yes_ no_ y n = n
 
-in_order : (op : Operation) (b : BucketState) → IsAllowed op → IsBucket b → TellsInOrder (answer_to op b)
+pub in_order : (op : Operation) (b : BucketState) → IsAllowed op → IsBucket b → TellsInOrder (answer_to op b)
 in_order (stat name) b may is = by_live (λ o. answers.Meta o.meta) answers.NotFound tt (object_at b name) (λ o there. live_rises b is name o there)
 in_order (read name generation first count) b may is =
     by_live (λ o. answers.Bytes (take count (drop first o.content))) answers.NotFound tt (object_of b name generation) (λ o there. tt)

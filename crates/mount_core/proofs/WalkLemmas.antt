@@ -1,15 +1,13 @@
 -- Walks along a plan, one operation after the other.
-use Rattle.std.proofs.Common.{◌≡◌, ◌≢◌, ◌+◌, ℕ, List, [], ◌∷◌, ◌++◌, Some, None, length, refl, sym, ap, subst, ◌∙◌, inr, arith, length-append}
+use Rattle.std.proofs.Common.{◌≡◌, ◌≢◌, ◌+◌, List, [], ◌∷◌, ◌++◌, Some, None, length, refl, sym, ap, subst, ◌∙◌, inr, arith, length-append}
 use Rattle.bucket_api.proofs.LogLaws.{state_at-pushed}
-use Rattle.bucket_api.specs.BucketState.{IsBucket}
 use Rattle.bucket_api.specs.BucketStep.{answer_to, state_after}
 use Rattle.std.proofs.lemmas.List.Elements.{All-append, All-cons, All-nil}
 use Rattle.bucket_api.specs.Operation.{Operation, IsAllowed}
 use Rattle.bucket_api.specs.declared.answers.Answer.{Answer}
 use Rattle.bucket_api.specs.declared.events.Mode.TheVariants as modes
 use Rattle.mount_core.specs.Stores.{Counted, LeavesBucket}
-use Rattle.mount_core.specs.Walks.{MakesNext, Walks, WalksAs, left_by, observed_on}
-use Rattle.mount_core.proofs.PageKeys.{answer_told}
+use Rattle.mount_core.specs.Walks.{MakesNext, Walks, left_by, observed_on}
 use Rattle.mount_model.specs.Observing.{Observed, finish, make}
 use Rattle.mount_rules.specs.Laws.{Planned}
 use Rattle.mount_rules.specs.OneThread.{Answers, Observes, Store, after_operation, after_operations}
@@ -18,7 +16,7 @@ use Rattle.mount_rules.specs.Plans.{Allows, Completes, MayEnd, Plan, Step, answe
 use Rattle.plan_names.specs.Errands.{Asked, IsTold, next_of}
 
 -- answers of what was observed, with one more
-answers_of-append : (seen : List Observed) (o : Observed) → answers_of (seen ++ o ∷ []) ≡ answers_of seen ++ o.answer ∷ []
+pub answers_of-append : (seen : List Observed) (o : Observed) → answers_of (seen ++ o ∷ []) ≡ answers_of seen ++ o.answer ∷ []
 answers_of-append [] o = refl
 answers_of-append (p ∷ seen) o = ap (λ (l : List Answer). p.answer ∷ l) (answers_of-append seen o)
 
@@ -42,25 +40,9 @@ leaves_more store before op may leaves = record {
   made = let was : before.made ≡ length store.log = leaves.made in omega (arith, length-append store.log (record { lane = 1; op = op; mode = modes.Done } ∷ []));
 }
 
--- one more stands behind what was observed
-pub observed_so : (seen room more : List Observed) (op : Operation) (moment : ℕ) (answer : Answer) (before : Counted)
-    → room ≡ seen → more ≡ room ++ record { op = op; moment = moment; answer = answer } ∷ [] → moment ≡ before.made + 1 → answer ≡ answer_to op before.bucket
-    → more ≡ seen ++ observed_on before op ∷ []
-observed_so seen room more op moment answer before kept pushed at told =
-    pushed ∙ ap (λ items. items ++ record { op = op; moment = moment; answer = answer } ∷ []) kept
-    ∙ ap (λ n. seen ++ record { op = op; moment = n; answer = answer } ∷ []) at
-    ∙ ap (λ a. seen ++ record { op = op; moment = before.made + 1; answer = a } ∷ []) told
-
 -- nothing was walked yet
 pub Walks-none : (plan : Plan) (before : Counted) → Walks plan before [] before
 Walks-none plan before store leaves = (tt, leaves)
-
--- a walk of which all is told
-pub WalksAs-all : (plan : Plan) (before after : Counted) (seen : List Observed) → Walks plan before seen after → WalksAs plan before seen after
-WalksAs-all plan before after seen walked = record { seen = seen; walked = walked; answers = refl; moment = refl }
-
-pub WalksAs-none : (plan : Plan) (before : Counted) → WalksAs plan before [] before
-WalksAs-none plan before = WalksAs-all plan before before [] (Walks-none plan before)
 
 -- a walk, and the operation that the plan asks next
 pub Walks-more : (plan : Plan) (start before after : Counted) (seen more : List Observed) → Walks plan start seen before → MakesNext plan before seen after more
@@ -84,18 +66,9 @@ Walks-more plan start before after seen more walked next store leaves =
 pub asks_on : (step : Step) (op : Operation) → asked_by step ≡ Some op → step ≢ done
 asks_on step op asked e = let none : None ≡ Some op = subst (λ (s : Step). asked_by s ≡ Some op) e asked in cc
 
-asked_more : (plan : Plan) (answers : List Answer) (a : Answer) → Asked plan answers → plan answers ≢ done → IsTold a → Asked plan (answers ++ a ∷ [])
+pub asked_more : (plan : Plan) (answers : List Answer) (a : Answer) → Asked plan answers → plan answers ≢ done → IsTold a → Asked plan (answers ++ a ∷ [])
 asked_more plan [] a asked asks told = (asks, told, tt)
 asked_more plan (b ∷ answers) a asked asks told = (asked.0, asked.1, asked_more (plan_after plan b) answers a asked.2 asks told)
-
--- the plan asked for each answer, that to its next operation too
-pub Asked-more : (plan : Plan) (before after : Counted) (seen more : List Observed) → Asked plan (answers_of seen) → MakesNext plan before seen after more
-    → IsBucket before.bucket → Asked plan (answers_of more)
-Asked-more plan before after seen more asked next is =
-    let o = observed_on before next.op in
-    subst (λ m. Asked plan (answers_of m)) (sym next.observed)
-    (subst (Asked plan) (sym (answers_of-append seen o))
-    (asked_more plan (answers_of seen) o.answer asked (asks_on (plan (answers_of seen)) next.op next.asked) (answer_told next.op before.bucket is)))
 
 -- what the next step says of the plan's
 pub asked_next : (step : Step) (op : Operation) → make op ≡ next_of step → asked_by step ≡ Some op
@@ -109,12 +82,12 @@ ends_next (ask asked) is = cc
 ends_next (may_read source step) is = ends_next step is
 
 -- ---- reads left out
-asked_without : (step : Step) → asked_by (without_reads step) ≡ asked_by step
+pub asked_without : (step : Step) → asked_by (without_reads step) ≡ asked_by step
 asked_without done = refl
 asked_without (ask op) = refl
 asked_without (may_read source step) = asked_without step
 
-ends_without : (step : Step) → MayEnd (without_reads step) → MayEnd step
+pub ends_without : (step : Step) → MayEnd (without_reads step) → MayEnd step
 ends_without done ends = ends
 ends_without (ask op) ends = ends
 ends_without (may_read source step) ends = ends_without step ends
@@ -135,12 +108,12 @@ Observes-asked asked plan is store (o ∷ seen) observed = (
 pub Completes-asked : (asked plan : Plan) → AsksAs asked plan → (seen : List Observed) → Completes asked seen → Completes plan seen
 Completes-asked asked plan is seen ends = ends_without (plan (answers_of seen)) (subst MayEnd (is (answers_of seen)) ends)
 
--- a plan asks something where one that asks the same does
-pub asks_too : (asked plan : Plan) → AsksAs asked plan → asked [] ≢ done → plan [] ≢ done
-asks_too asked plan is asks e = asks (is [] ∙ ap without_reads e)
+-- a plan asks on where one that asks the same does
+pub asks_too : (asked plan : Plan) → AsksAs asked plan → (told : List Answer) → asked told ≢ done → plan told ≢ done
+asks_too asked plan is told asks e = asks (is told ∙ ap without_reads e)
 
 -- ---- from the walk to the laws
-allows : (step : Step) (op : Operation) → asked_by step ≡ Some op → Allows step op
+pub allows : (step : Step) (op : Operation) → asked_by step ≡ Some op → Allows step op
 allows done op asked = cc
 allows (ask first) op asked = cc
 allows (may_read source step) op asked = inr (allows step op asked)

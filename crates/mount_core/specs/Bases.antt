@@ -1,13 +1,8 @@
 -- What a request wants of the source of its file, and what it got.
-use Rattle.std.specs.Prelude.{◌≡◌, ◌≤◌, ◌+◌, ℕ, [], length, Option, Some, None, IsSome, ◌⊎◌}
+use Rattle.std.specs.Prelude.{◌≡◌, ◌≤◌, ◌+◌, [], length, Option, Some, None}
 use Rattle.bucket_api.specs.BucketState.{BucketState, object_of}
 use Rattle.bucket_api.specs.declared.objects.Object.{Object}
-use Rattle.fuse_replies.specs.Errno.{enomem, estale}
-use Rattle.mount_core.specs.Stores.{Counted}
-use Rattle.mount_core.specs.Walks.{Stops}
-use Rattle.mount_core.specs.declared.stopped.Stopped.{Stopped}
-use Rattle.mount_core.specs.declared.stopped.Stopped.TheVariants.{NoMemory, Stale}
-use Rattle.mount_rules.specs.Plans.{Contents, Plan, Wanted}
+use Rattle.mount_rules.specs.Plans.{Contents, Wanted}
 use Rattle.mount_rules.specs.Reading.{bytes_in}
 use Rattle.mount_state.specs.declared.base.Base.{Base}
 use Rattle.staging_spec.specs.Slices.{Holds}
@@ -41,18 +36,3 @@ HoldsBase contents (Some wanted) base = Holds (contents wanted.name wanted.gener
 abbrev pub HasBytes : BucketState → Option Wanted → Type 0
 HasBytes bucket None = Unit {0}
 HasBytes bucket (Some wanted) = (o : Object) → HasLive bucket wanted o → wanted.range.first + wanted.range.count ≤ length o.content
-
--- nothing was read: memory was refused, or the generation is gone
-abbrev pub WhyNot : BucketState → Option Wanted → Stopped → Type 0
-WhyNot bucket None why = ⊥
-WhyNot bucket (Some wanted) NoMemory = Unit {0}
-WhyNot bucket (Some wanted) Stale = IsGone bucket wanted
-
--- a request stopped on the way along its plan, whatever generations hold, or at what it wants of a source
-abbrev pub StopsBy : (Contents → Plan) → Option Wanted → Counted → Counted → Stopped → Type 0
-StopsBy plan wanted before after NoMemory = ((contents : Contents) → Stops (plan contents) before after) ⊎ ((after ≡ before) × IsSome wanted)
-StopsBy plan wanted before after Stale = (after ≡ before) × WhyNot before.bucket wanted Stale
-
-abbrev pub errno_of : Stopped → ℕ
-errno_of NoMemory = enomem
-errno_of Stale = estale

@@ -1,5 +1,5 @@
 -- What a request has to do on the bucket: nothing, an errand on names or on a file, or the flush of a frozen copy.
-use Rattle.std.specs.Prelude.{◌≡◌, ◌≤◌, ℕ, Bool, List, [], Option, None, IfSome, length}
+use Rattle.std.specs.Prelude.{◌≡◌, ◌≢◌, ◌≤◌, ℕ, Bool, List, [], Option, None, IfSome, length}
 use Rattle.bucket_api.specs.Metadata.{KeysRise}
 use Rattle.bucket_api.specs.Names.{IsObjectName}
 use Rattle.bucket_api.specs.Operation.{max_content}
@@ -14,6 +14,7 @@ use Rattle.plan_files.specs.Errands as files
 use Rattle.plan_files.specs.declared.errand.FileErrand.{FileErrand}
 use Rattle.plan_files.specs.declared.errand.FileErrand.TheVariants as file
 use Rattle.plan_names.specs.Errands as names
+use Rattle.plan_names.specs.Errands.{Asked}
 use Rattle.plan_names.specs.declared.errand.NameErrand.TheVariants.{Opendir}
 use Rattle.staged_file.specs.Frozen.{FrozenFile, frozen_content, frozen_wanted}
 use Rattle.staged_file.specs.Sources.{range_of}
@@ -76,6 +77,24 @@ IsErrand Nothing = Unit {0}
 IsErrand (Names errand) = names.IsErrand errand
 IsErrand (Files errand) = files.IsErrand errand × IsWalked (Files errand)
 IsErrand (Flush errand frozen) = FlushesFrozen errand frozen
+
+-- ---- on its way
+-- the errand asked for each of these answers; a flush asks but once
+abbrev pub HasAsked : Errand → ℕ → List Answer → Type 0
+HasAsked Nothing second told = Unit {0}
+HasAsked (Flush errand frozen) second told = told ≡ []
+HasAsked errand second told = Asked (plan_of errand [] second) told
+
+-- and asked for one more
+abbrev pub AsksOn : Errand → ℕ → List Answer → Type 0
+AsksOn Nothing second told = Unit {0}
+AsksOn (Flush errand frozen) second told = ⊥
+AsksOn errand second told = Asked (plan_of errand [] second) told × (plan_of errand [] second told ≢ done)
+
+-- its errand is a flush that was not asked yet
+abbrev pub IsFlushing : Errand → Type 0
+IsFlushing (Flush errand frozen) = Unit {0}
+IsFlushing errand = ⊥
 
 -- the errand lists a directory
 abbrev pub IsListing : Errand → Type 0

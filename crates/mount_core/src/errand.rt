@@ -5,7 +5,7 @@ ghost use Rattle.dir_listing.specs.Pages.{with_pages};
 ghost use Rattle.file_metadata.specs.FileMetadata.{last_second};
 ghost use Rattle.fuse_requests.specs.Grammar.{without_spare};
 ghost use Rattle.bucket_api.specs.Operation.{operation, IsAllowed};
-ghost use Rattle.mount_core.specs.Errands.{plan_of, plan_over, wanted_of, AsksAs, HoldsEntries, IsErrand, IsListing, IsWalked};
+ghost use Rattle.mount_core.specs.Errands.{plan_of, plan_over, wanted_of, AsksAs, HasAsked, HoldsEntries, IsErrand, IsListing, IsWalked};
 ghost use Rattle.mount_core.specs.Metadatas.{GivesMetadata};
 ghost use Rattle.mount_model.specs.Configs.{IsConfig};
 ghost use Rattle.mount_model.specs.Observing.{next_step, Observed};
@@ -18,7 +18,7 @@ ghost use Rattle.mount_rules.specs.Rules.{AtTake};
 ghost use Rattle.mount_state.specs.Spares.{Fills};
 ghost use Rattle.object_names.specs.declared.shown.DirItem.{DirItem};
 ghost use Rattle.plan_files.specs.Errands.{read_of};
-ghost use Rattle.plan_names.specs.Errands.{next_of, Asked, MayMake};
+ghost use Rattle.plan_names.specs.Errands.{next_of, MayMake};
 
 use crate::{files, making, names, removing};
 use bucket_api::{Answer, Op};
@@ -172,7 +172,7 @@ impl Errand {
     ) -> Result<Next, NoMemory>
         requires walked { IsWalked self.now }
         requires errand { IsErrand self.now }
-        requires asked { Asked (plan_of self.now [] second) answers.now }
+        requires asked { HasAsked self.now second answers.now }
         ensures ok { IfOk result (λ next. next_step next ≡ next_of (plan_of self.now [] second answers.now)) }
         ensures may { IfOk result (λ next. MayMake (next_step next)) }
         ensures err { OnErr result (plan_of self.now [] second answers.now ≢ done) }

@@ -12,12 +12,13 @@ ghost use Rattle.mount_rules.specs.Laws.{CountsDecide, FlushesAreGuarded, Number
 ghost use Rattle.mount_rules.specs.Mount.{IsMount};
 ghost use Rattle.mount_rules.specs.OneThread.{second_of};
 
+use crate::carry::carry_out;
 use crate::errand::Errand;
-use crate::observe::observe;
 use crate::store::Store;
 use bucket_plain::Plain;
 use file_metadata::LAST_SECOND;
 use fuse_replies::Reply;
+use fuse_replies::errno::ENOMEM;
 use fuse_requests::Request;
 use io_ports::NoMemory;
 use mount_model::Config;
@@ -117,11 +118,11 @@ impl Serial {
         let implicit = self.config.implicit_dirs;
         let errand = Errand::of(alloc, &self.config, &self.mount, second, request)?;
         let mut spare = self.mount.prepare(alloc, request)?;
-        match observe(alloc, errand, second, implicit, &mut self.store, &mut spare) {
-            Ok((seen, base)) => Ok(self.mount.finish(second, request, spare, seen, base)),
-            Err(stopped) => {
+        match carry_out(alloc, errand, second, implicit, &mut self.store, &mut spare) {
+            Ok((told, base)) => Ok(self.mount.finish(second, request, spare, told, base)),
+            Err(NoMemory) => {
                 self.mount.forgo(spare);
-                Ok(Reply::Error(stopped.errno()))
+                Ok(Reply::Error(ENOMEM))
             }
         }
     }

@@ -1,13 +1,13 @@
 //! The bucket of a mount on one thread.
 ghost use Rattle.std.specs.Prelude.{◌≡◌, ◌<◌, ◌≤◌, ◌+◌, ◌^◌, IfOk, OnOk, OnErr};
-ghost use Rattle.bucket_api.specs.BucketState.{BucketState, IsBucket, IsWithin};
+ghost use Rattle.bucket_api.specs.BucketState.{BucketState, HasRoom, IsBucket, IsWithin};
 ghost use Rattle.bucket_api.specs.BucketStep.{answer_to, state_after};
-ghost use Rattle.bucket_api.specs.Operation.{insert, operation, IsAllowed};
+ghost use Rattle.bucket_api.specs.Operation.{operation, IsAllowed};
 ghost use Rattle.mount_core.specs.Stores.{most};
 
-use bucket_api::{Answer, Op, Pair};
+use bucket_api::{Answer, Op};
 use bucket_plain::Plain;
-use io_ports::{Bytes, NoMemory, Row, Text};
+use io_ports::NoMemory;
 use std::alloc::Global;
 use std::marker::Model;
 
@@ -42,12 +42,13 @@ impl Store {
         Store { bucket, made: 0 }
     }
 
-    /// Makes an operation: its moment, from 1, and its answer. `NoMemory` where memory for the answer or the object was
-    /// refused, or once 2^48 operations were made; then nothing was made.
-    pub(crate) fn make(&mut self, alloc: Global, op: &Op) -> Result<(u64, Answer), NoMemory>
-        requires may { IsAllowed (operation op.now) }
-        ensures ok { IfOk result (λ made. (made.0 ≡ self.old.made + 1) × (made.1 ≡ answer_to (operation op.now) self.old.bucket)) }
-        ensures after { OnOk result (self.new ≡ record { bucket = state_after (operation op.now) self.old.bucket; made = self.old.made + 1 }) }
+    /// Makes an operation: its moment, from 1, and its answer. The content of an insert is moved into the bucket. `NoMemory`
+    /// where memory for the answer or the object was refused, or once 2^48 operations were made; then nothing was made, and
+    /// the operation is let go.
+    pub(crate) fn make(&mut self, alloc: Global, op: Op) -> Result<(u64, Answer), NoMemory>
+        requires may { IsAllowed (operation op) }
+        ensures ok { IfOk result (λ made. (made.0 ≡ self.old.made + 1) × (made.1 ≡ answer_to (operation op) self.old.bucket)) }
+        ensures after { OnOk result (self.new ≡ record { bucket = state_after (operation op) self.old.bucket; made = self.old.made + 1 }) }
         ensures bounded { OnOk result (self.old.made < most) }
         ensures valid { IsBucket self.old.bucket }
         ensures err { OnErr result (self.new ≡ self.old) }
@@ -55,38 +56,9 @@ impl Store {
         if self.made >= MOST_OPERATIONS {
             return Err(NoMemory);
         }
-        let answer = self.bucket.apply(alloc, op)?;
+        let answer = apply_whole(&mut self.bucket, alloc, op)?;
         self.made += 1;
         Ok((self.made, answer))
-    }
-
-    /// Makes an insert of these parts, whose content is moved into the bucket: its moment and its answer, as for `make`.
-    /// `NoMemory` where memory for the answer or the object was refused, or once 2^48 operations were made; then nothing was
-    /// made, and the content is let go.
-    pub(crate) fn insert(
-        &mut self,
-        alloc: Global,
-        name: &Text,
-        content: Bytes,
-        pairs: &Row<Pair>,
-        only: Option<u64>,
-        stamp: u64,
-    ) -> Result<(u64, Answer), NoMemory>
-        requires may { IsAllowed (insert name.now content pairs.now.items only stamp) }
-        ensures ok { IfOk result (λ made. (made.0 ≡ self.old.made + 1) × (made.1 ≡ answer_to (insert name.now content pairs.now.items only stamp) self.old.bucket)) }
-        ensures after { OnOk result (self.new ≡ record { bucket = state_after (insert name.now content pairs.now.items only stamp) self.old.bucket; made = self.old.made + 1 }) }
-        ensures bounded { OnOk result (self.old.made < most) }
-        ensures err { OnErr result (self.new ≡ self.old) }
-    {
-        if self.made >= MOST_OPERATIONS {
-            return Err(NoMemory);
-        }
-        let answer = self
-            .bucket
-            .insert(alloc, name, content, pairs, only, stamp)?;
-        let moment = self.made + 1;
-        self.made = moment;
-        Ok((moment, answer))
     }
 
     /// What the bucket, as it stands, answers an operation that changes nothing. It is not counted. `NoMemory` where memory
@@ -106,5 +78,25 @@ impl Store {
         ensures { result.now ≡ self.now.bucket }
     {
         &self.bucket
+    }
+}
+
+/// Makes an operation that is given whole: the content of an insert is moved into the bucket, and not copied.
+fn apply_whole(bucket: &mut Plain, alloc: Global, op: Op) -> Result<Answer, NoMemory>
+    requires room { HasRoom bucket.old }
+    requires may { IsAllowed (operation op) }
+    ensures ok { IfOk result (λ answer. answer ≡ answer_to (operation op) bucket.old) }
+    ensures after { OnOk result (bucket.new ≡ state_after (operation op) bucket.old) }
+    ensures kept { OnErr result (bucket.new ≡ bucket.old) }
+{
+    match op {
+        Op::Insert {
+            name,
+            content,
+            pairs,
+            only,
+            stamp,
+        } => bucket.insert(alloc, &name, content, &pairs, only, stamp),
+        op => bucket.apply(alloc, &op),
     }
 }

@@ -3,6 +3,7 @@
 //! of such objects.
 mod ask;
 mod beside;
+mod journal;
 mod naming;
 mod staged;
 mod steps;

@@ -69,18 +69,18 @@ fn replace<R: Abort + AllocGlobal>(
     content: &str,
 ) -> Result<(), NoMemory> {
     let op = insert_of(rt, content)?;
-    make(rt.alloc(), mount, &op)
+    make(rt.alloc(), mount, op)
 }
 
 /// Another writer deletes it.
 fn remove<R: Abort + AllocGlobal>(rt: &R, mount: &mut Serial) -> Result<(), NoMemory> {
     let op = delete_of(rt)?;
-    make(rt.alloc(), mount, &op)
+    make(rt.alloc(), mount, op)
 }
 
 /// Makes an operation beside the mount.
-fn make(alloc: Global, mount: &mut Serial, op: &Op) -> Result<(), NoMemory>
-    requires { IsAllowed (operation op.now) }
+fn make(alloc: Global, mount: &mut Serial, op: Op) -> Result<(), NoMemory>
+    requires { IsAllowed (operation op) }
 {
     mount.store.make(alloc, op)?;
     Ok(())

@@ -10,7 +10,7 @@ use Rattle.mount_core.proofs.store.Store.make.Goals as goal
 
 pub invariant_of-self-2 : goal.invariant_of-self-2
 invariant_of-self-2 c =
-    let op = operation c.args.op.now in
+    let op = operation c.args.op in
     let was = c.self.inside.bucket in
     subst (λ (bucket : BucketState). IsCounted (record { bucket = bucket; made = c.self.inside.made + 1 })) (sym c.in_ok-answer.ensures.after) (record {
       is = IsBucket-state_after op was c.requires.may c.self.invariant.is;

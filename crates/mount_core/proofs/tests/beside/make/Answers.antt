@@ -47,7 +47,7 @@ module _ (run : RunState) (before : SerialState) (op : Operation) (came : CameTo
 pub invariant_of-mount-2 : goal.invariant_of-mount-2
 invariant_of-mount-2 c =
     let was = c.mount.invariant in
-    let op = operation c.args.op.now in
+    let op = operation c.args.op in
     record {
       settings = was.settings;
       same = was.same;
