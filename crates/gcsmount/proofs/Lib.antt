@@ -2,5 +2,8 @@ pub mod AnswerLaws
 pub mod Completeness
 pub mod FrameLists
 pub mod PieceLaws
+pub mod PlayLaws
+pub mod InputLaws
+pub mod TellLaws
 pub mod ServeLaws
 pub mod Results

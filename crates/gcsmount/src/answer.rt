@@ -85,8 +85,8 @@ fn request_in(alloc: Global, frame: &[u8]) -> Result<Request, NoMemory>
     }
 }
 
-// Puts the bytes, if there are any.
-fn put<W: Sink>(sink: &mut W, bytes: &[u8]) -> Result<(), Stop>
+/// Puts the bytes, if there are any.
+pub(crate) fn put<W: Sink>(sink: &mut W, bytes: &[u8]) -> Result<(), Stop>
     ensures ok { OnOk result (Appends (W.port sink.old).bytes (W.port sink.new).bytes bytes.now) }
     ensures err { OnErr result (AppendsPrefix (W.port sink.old).bytes (W.port sink.new).bytes bytes.now) }
     ensures failed { IfErr result (λ stop. (stop ≡ Stop.WriteFault) × Rose (W.port sink.old).faults (W.port sink.new).faults) }

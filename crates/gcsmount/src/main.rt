@@ -2,6 +2,10 @@
 #![tactic(auto)]
 
 mod answer;
+mod drilling;
+mod input;
+mod play_end;
+mod playing;
 mod serve;
 mod serve_end;
 mod server;
@@ -11,6 +15,8 @@ mod tool;
 
 use io_ports::{StdSink, StdSource, Text};
 use mount_model::IdleGate;
+pub use play_end::PlayEnd;
+pub use playing::play_stream;
 pub use serve::serve_stream;
 pub use serve_end::ServeEnd;
 use std::io::ErrorKind;

@@ -1,26 +1,20 @@
 //! A stream of request frames is served to its end.
-ghost use Rattle.std.specs.Prelude.{◌≡◌, ◌≤◌, ◌+◌, ℕ, List, IfOk, OnOk, OnErr, length, take, vec_len};
-ghost use Rattle.std.specs.Io.KnownBytes.{Consumes, IsAtEnd, Keeps};
-ghost use Rattle.io_ports.specs.Faults.{Rose};
+ghost use Rattle.std.specs.Prelude.{◌≡◌, ◌≤◌, ◌+◌, ℕ, List, length, take};
 ghost use Rattle.mount_model.specs.Configs.{IsConfig};
 ghost use Rattle.mount_model.specs.declared.config.Config.{Config};
 ghost use Rattle.fuse_frames.specs.Cutter.{fed};
 ghost use Rattle.gcsmount.specs.Serve.{IsComplete, Streams, longest_input};
 ghost use Rattle.gcsmount.specs.Serving.{FinishesBy, HasServed, ServesTaken};
 
+use crate::input::{LONGEST_INPUT, piece_buffer, take_piece};
 use crate::serve_end::ServeEnd;
 use crate::server::{end_of, serve_piece};
 use bucket_plain::Plain;
 use fuse_frames::FrameCutter;
-use io_ports::{Failed, NoMemory, Sink, Source};
+use io_ports::{Failed, Sink, Source};
 use mount_core::Serial;
 use mount_model::Config;
 use std::alloc::Global;
-
-/// The most bytes of input that are served.
-const LONGEST_INPUT: u64 = 67_108_864;
-/// The most bytes that one take asks for.
-const PIECE: usize = 65_536;
 
 /// Serves the request frames of a source to its end, on a mount over an empty bucket: each whole frame is
 /// answered before more input is taken. At most 65,536 bytes are asked for at once, and never more than
@@ -74,28 +68,6 @@ fn serve_input<R: Source, W: Sink>(
             Err(end) => return end,
         }
     }
-}
-
-fn piece_buffer(alloc: Global) -> Result<Vec<u8>, NoMemory>
-    ensures ok { IfOk result (λ buffer. vec_len buffer ≡ 65536) }
-{
-    Ok(vec![in alloc; 0; PIECE]?)
-}
-
-// Takes the next bytes of the source into the front of the buffer.
-fn take_piece<R: Source>(source: &mut R, buffer: &mut [u8], taken: u64) -> Result<usize, Failed>
-    requires buffer { length buffer.old ≡ 65536 }
-    requires taken { taken ≤ longest_input }
-    ensures bound { IfOk result (λ count. (count ≤ 65536) × (taken + count ≤ longest_input + 1)) }
-    ensures bytes { IfOk result (λ count. Consumes (R.port source.old).bytes (R.port source.new).bytes (take count buffer.new)) }
-    ensures end { IfOk result (λ count. count ≡ 0 → IsAtEnd (R.port source.new).bytes) }
-    ensures err { OnErr result (Keeps (R.port source.old).bytes (R.port source.new).bytes) }
-    ensures failed { OnErr result (Rose (R.port source.old).faults (R.port source.new).faults) }
-    ensures held { OnOk result ((R.port source.new).faults ≡ (R.port source.old).faults) }
-{
-    let room = (LONGEST_INPUT + 1 - taken).min(PIECE as u64) as usize;
-    let (asked, _rest) = buffer.split_at_mut(room);
-    source.take(asked)
 }
 
 // Serves the bytes of one take, but for one past the longest input.

@@ -1,5 +1,8 @@
 //! The program, run as a whole: its words, streams that fail or come in pieces, what it puts out and what it tells.
+mod directories;
+mod ends;
 mod files;
+mod plays;
 mod streams;
 
 use crate::tool::run_tool;
@@ -175,7 +178,7 @@ fn nothing_is_answered_to_nothing(rt: HostRuntime) -> Result<(), Fail> {
 #[test]
 fn words_of_no_form_read_nothing(rt: HostRuntime) -> Result<(), Fail> {
     let alloc = rt.alloc();
-    let usage = "usage: gcsmount serve\n";
+    let usage = "usage: gcsmount serve / play [--workers N] / drill S [--workers N]\n";
     let unread = Ports { source: 1, ..SOUND };
     runs(&rt, alloc, &[], INIT, unread, (2, "", usage))?;
     let words = [Text::of(alloc, "serve")?, Text::of(alloc, "x")?];
