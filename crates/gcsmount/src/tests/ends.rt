@@ -34,10 +34,15 @@ pub(crate) fn prints<T: Threads + Wait + Sync + Abort>(
         &mut notes,
         &IdleGate,
     );
-    assert_eq!(rt; answered, status);
-    assert_eq!(rt; sink.bytes(), put.as_bytes());
-    assert_eq!(rt; notes.bytes(), told.as_bytes());
+    assert_eq!(rt; answered, status, "of {input}");
+    assert_eq!(rt; text_of(&sink), put, "of {input}");
+    assert_eq!(rt; text_of(&notes), told, "of {input}");
     Ok(())
+}
+
+/// What a sink got, where it is text.
+fn text_of(sink: &MemSink) -> &str {
+    str::from_utf8(sink.bytes()).unwrap_or("no text")
 }
 
 /// A scenario in which nothing happens.
