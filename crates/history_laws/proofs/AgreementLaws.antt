@@ -8,9 +8,11 @@ use Rattle.bucket_api.specs.LogEvent.{LogEvent}
 use Rattle.bucket_api.specs.Operation.{IsAllowed}
 use Rattle.bucket_api.specs.declared.events.Mode.TheVariants as modes
 use Rattle.history_laws.proofs.Along.{stands_first}
-use Rattle.history_laws.proofs.Bare.{IsKnown, bare_table}
+use Rattle.history_laws.proofs.Bare.{IsKnown, UpTo, bare_table}
 use Rattle.history_laws.proofs.BareMounts.{IsBareMount}
 use Rattle.history_laws.proofs.CallPairs.{IsPair, after_pair, get_some, pair_of}
+use Rattle.history_laws.proofs.KnownMoments.{IsToldKnown, not_below}
+use Rattle.history_laws.proofs.StaleTurns.{StaleAlong, stale_along}
 use Rattle.history_laws.specs.Agreements.{Agrees, OneThreadAgrees, StandsStill}
 use Rattle.history_laws.specs.Apart.{OneByOne}
 use Rattle.history_spec.proofs.Following.{fronts_rise}
@@ -23,8 +25,9 @@ use Rattle.mount_laws.proofs.Keeping.{no_Some}
 use Rattle.mount_model.specs.declared.config.Config.{Config}
 use Rattle.mount_rules.specs.Mount.{MountModel, Node, first_mount}
 use Rattle.mount_rules.specs.OneThread.{Call}
+use Rattle.record_spec.specs.Past.{no_past}
 use Rattle.spare_maps.proofs.FinMaps.{number_put}
-use Rattle.history_laws.proofs.SerialCalls.{AgreesFrom, OwnAll, StaleAlong, StandsAlone, agrees_pair, not_below, stale_along, stands_next, told_of}
+use Rattle.history_laws.proofs.SerialCalls.{AgreesFrom, OwnAll, StandsAlone, agrees_pair, stands_next, told_of}
 
 module _ (config : Config) (start : BucketState) (log : List LogEvent) where
   module _ (bucket : IsBucket start) (allowed : All (λ e. IsAllowed e.op) log) (complete : All (λ (e : LogEvent). e.mode ≡ modes.Done) log) where
@@ -81,11 +84,11 @@ module _ (config : Config) (start : BucketState) (log : List LogEvent) where
     agrees_along (account.done call front h items fill ∷ turns) state past other so follows one still stale_wants own_all within = absurd one
 
 -- before the first call
-first_bare : IsBareMount 0 first_mount (record first_mount { table = bare_table first_mount.table })
-first_bare = record { table = record { is = refl; known = λ k node there. known node (number_put fin.empty 1 root node k there) }; rest = refl }
+first_bare : (Known : List ℕ → ℕ → ℕ → Type 0) → IsBareMount Known first_mount (record first_mount { table = bare_table first_mount.table })
+first_bare Known = record { table = record { is = refl; known = λ k node there. known node (number_put fin.empty 1 root node k there) }; rest = refl }
   where
-    known : {k : ℕ} (node : Node) → ((k ≡ 1) × (root ≡ node)) ⊎ (fin.get {R = nat_cmp} fin.empty k ≡ Some node) → IsKnown 0 node
-    known node (inl first) = subst (IsKnown 0) first.1 tt
+    known : {k : ℕ} (node : Node) → ((k ≡ 1) × (root ≡ node)) ⊎ (fin.get {R = nat_cmp} fin.empty k ≡ Some node) → IsKnown Known node
+    known node (inl first) = subst (IsKnown Known) first.1 tt
     known {k} node (inr was) = let none : fin.get {X = Node} {R = nat_cmp} fin.empty k ≡ None = fin.get-empty nat_cmp k in absurd (no_Some (sym none ∙ was))
 
 pub one_thread_agrees : OneThreadAgrees
@@ -97,10 +100,11 @@ one_thread_agrees config start log turns alone stale_wants =
     first = record {
       none = refl;
       clock = refl;
-      alike = record { bare = record first_mount { table = bare_table first_mount.table }; one_is = first_bare; other_is = first_bare };
+      alike = record { bare = record first_mount { table = bare_table first_mount.table }; one_is = first_bare (IsToldKnown start log 0 no_past); other_is = first_bare (UpTo 0) };
       same = record { bucket = refl; contents = λ name generation. refl };
       own_before = λ e moment there its. let never : there.0 < 0 = there.1 in absurd (omega (arith, never));
       stands = stands_first config start log alone.bucket alone.allowed;
+      told = tt;
     }
 
     by : AgreesFrom config start log first_journal turns [] first_mount → (calls : List Call) × Agrees config start log turns calls

@@ -1,5 +1,5 @@
 -- Mounts without the moments that are kept of nodes: requests see the same, are shown the same, and leave the same.
-use Rattle.std.proofs.Common.{◌≡◌, ◌≤◌, ℕ, List, Option, Some, None, refl, sym, ap, ◌∙◌, map}
+use Rattle.std.proofs.Common.{◌≡◌, ℕ, List, Option, Some, None, refl, sym, ap, ◌∙◌, map}
 use Rattle.std.specs.FinMap as fin
 use Rattle.std.specs.Option.{option_map, option_map_or, option_and_then}
 use Rattle.bucket_api.specs.Metadata.{Metadata}
@@ -7,8 +7,9 @@ use Rattle.fuse_replies.specs.Errno.{estale}
 use Rattle.fuse_replies.specs.declared.reply.EntryOut.{EntryOut}
 use Rattle.fuse_replies.specs.declared.reply.Reply.{Reply}
 use Rattle.fuse_replies.specs.declared.reply.Reply.TheVariants.{Attr, Error}
-use Rattle.history_laws.proofs.Bare.{IsBare, bare_file, bare_later, bare_node, current_same, found_bare, next_same}
-use Rattle.history_laws.proofs.BareSteps.{bare_shown, object_again_bare, shown_is, shown_or_new_is}
+use Rattle.history_laws.proofs.Bare.{IsBare, IsWithin, bare_file, bare_later, bare_node, current_same, found_bare, next_same}
+use Rattle.history_laws.proofs.BareSteps.{again_directory}
+use Rattle.history_laws.proofs.ShownAgain.{AreNamed, IsNews, bare_shown, current_again, shown_is, shown_or_new_is}
 use Rattle.inode_spec.specs.Inodes.{Names}
 use Rattle.mount_model.specs.declared.config.Config.{Config}
 use Rattle.mount_rules.specs.Attributes.{attributes, entry_of, size_of, time_of_file}
@@ -23,18 +24,19 @@ use Rattle.object_names.specs.declared.shown.NodeKind.{NodeKind}
 use Rattle.object_names.specs.declared.shown.NodeKind.TheVariants.{Dir, File as RegularFile, Symlink}
 use Rattle.staging_spec.specs.StagedFiles.{StagedContent, StagedFiles}
 
--- The one mount is the other without moments, of which none is past this one.
-pub record IsBareMount (n : ℕ) (mount bare : MountModel) : Type 0 where
-  pub table : IsBare n mount.table bare.table
+-- The one mount is the other without moments, of which this is known.
+pub record IsBareMount (Known : List ℕ → ℕ → ℕ → Type 0) (mount bare : MountModel) : Type 0 where
+  pub table : IsBare Known mount.table bare.table
   pub rest : record mount { table = bare.table } ≡ bare
 
-pub bare_mount_later : (n m : ℕ) (mount bare : MountModel) → n ≤ m → IsBareMount n mount bare → IsBareMount m mount bare
-bare_mount_later n m mount bare within so = record { table = bare_later n m mount.table bare.table within so.table; rest = so.rest }
+module _ (Known Then : List ℕ → ℕ → ℕ → Type 0) where
+  pub bare_mount_later : IsWithin Known Then → (mount bare : MountModel) → IsBareMount Known mount bare → IsBareMount Then mount bare
+  bare_mount_later within mount bare so = record { table = bare_later Known Then within mount.table bare.table so.table; rest = so.rest }
 
--- with other nodes
-pub bare_with_table : (n m : ℕ) (mount bare : MountModel) (table bare_table : NodeTable) → IsBareMount n mount bare → IsBare m table bare_table
-    → IsBareMount m (record mount { table = table }) (record bare { table = bare_table })
-bare_with_table n m mount bare table bare_table so its = record { table = its; rest = ap (λ (b : MountModel). record b { table = bare_table }) so.rest }
+  -- with other nodes
+  pub bare_with_table : (mount bare : MountModel) (table bare_table : NodeTable) → IsBareMount Known mount bare → IsBare Then table bare_table
+      → IsBareMount Then (record mount { table = table }) (record bare { table = bare_table })
+  bare_with_table mount bare table bare_table so its = record { table = its; rest = ap (λ (b : MountModel). record b { table = bare_table }) so.rest }
 
 -- ---- what is seen
 sight_bare : (number : ℕ) (found : Option Node) → option_map (sight_of number) (option_map bare_node found) ≡ option_map (sight_of number) found
@@ -73,13 +75,13 @@ view_by sights kept current handles staged looks =
       listed = map sights looks.listed;
     }
 
-module _ (n : ℕ) (mount bare : MountModel) (so : IsBareMount n mount bare) where
+module _ (Known : List ℕ → ℕ → ℕ → Type 0) (mount bare : MountModel) (so : IsBareMount Known mount bare) where
   sights_same : sight_at bare.table ≡ sight_at mount.table
-  sights_same = λ i number. (ap (option_map (sight_of number)) (found_bare n mount.table bare.table so.table number) ∙ sight_bare number (fin.get mount.table.nodes number)) i
+  sights_same = λ i number. (ap (option_map (sight_of number)) (found_bare Known mount.table bare.table so.table number) ∙ sight_bare number (fin.get mount.table.nodes number)) i
 
   kept_same : kept_at bare.table ≡ kept_at mount.table
   kept_same = λ i number.
-      (ap (option_and_then (λ (node : Node). option_map (λ (file : File). file.kept.meta) node.file)) (found_bare n mount.table bare.table so.table number)
+      (ap (option_and_then (λ (node : Node). option_map (λ (file : File). file.kept.meta) node.file)) (found_bare Known mount.table bare.table so.table number)
       ∙ kept_bare (fin.get mount.table.nodes number)) i
 
   pub staged_same : mount.staged ≡ bare.staged
@@ -92,7 +94,7 @@ module _ (n : ℕ) (mount bare : MountModel) (so : IsBareMount n mount bare) whe
   view_same looks =
       ap (λ s. view_by s (kept_at bare.table) bare.table.current bare.handles bare.staged looks) sights_same
       ∙ ap (λ k. view_by (sight_at mount.table) k bare.table.current bare.handles bare.staged looks) kept_same
-      ∙ sym (ap (λ c. view_by (sight_at mount.table) (kept_at mount.table) c bare.handles bare.staged looks) (current_same n mount.table bare.table so.table))
+      ∙ sym (ap (λ c. view_by (sight_at mount.table) (kept_at mount.table) c bare.handles bare.staged looks) (current_same Known mount.table bare.table so.table))
       ∙ sym (ap (λ (m : MountModel). view_by (sight_at mount.table) (kept_at mount.table) mount.table.current m.handles m.staged looks) so.rest)
 
   pub agreed_same : mount.negotiated ≡ bare.negotiated
@@ -125,36 +127,38 @@ abbrev pub names_left : Standing → ℕ
 names_left standing.gone = 0
 names_left found = 1
 
-module _ (n : ℕ) (mount bare : MountModel) (so : IsBareMount n mount bare) (config : Config) where
+module _ (Known : List ℕ → ℕ → ℕ → Type 0) (mount bare : MountModel) (so : IsBareMount Known mount bare) (config : Config) where
   pub directory_entry_bare : (prefix : List ℕ) → directory_entry config mount.table prefix ≡ directory_entry config bare.table prefix
   directory_entry_bare prefix =
       sym (entry_bare config (directory_by mount.table prefix).number (directory_by mount.table prefix).node None)
       ∙ sym (ap (λ (s : Numbered). entry_of config s.number s.node None)
-      (shown_or_new_is n mount.table bare.table so.table directory_again directory_again (λ node known. record { is = refl; known = known }) prefix (new_directory prefix)))
+      (shown_or_new_is Known mount.table bare.table so.table directory_again directory_again prefix (again_directory Known mount.table bare.table so.table prefix) (new_directory prefix)))
 
-  -- where the moment of the step is the bound
-  pub object_entry_bare : (path : List ℕ) (meta : Metadata) → object_entry config mount path meta n ≡ object_entry config bare path meta 0
-  object_entry_bare path meta =
-      by (current_shown (object_again meta n) mount.table path)
+  -- where what is shown is news
+  pub object_entry_bare : (Then : List ℕ → ℕ → ℕ → Type 0) → IsWithin Known Then → AreNamed mount.table → (path : List ℕ) (meta : Metadata) (moment : ℕ)
+      → IsNews Known Then path meta.generation moment → object_entry config mount path meta moment ≡ object_entry config bare path meta 0
+  object_entry_bare Then within named path meta moment news =
+      by (current_shown (object_again meta moment) mount.table path)
       ∙ sym (ap (λ found. option_map_or shown found (entry_of config bare.table.next (new_node path meta 0) None))
-      (shown_is n mount.table bare.table so.table (object_again meta n) (object_again meta 0) (object_again_bare meta n) path))
+      (shown_is Then mount.table bare.table (bare_later Known Then within mount.table bare.table so.table) (object_again meta moment) (object_again meta 0) path
+      (current_again Known Then meta moment mount.table bare.table so.table named path news)))
     where
       shown : Numbered → EntryOut
       shown s = entry_of config s.number s.node (fin.get bare.staged s.number)
 
       by : (found : Option Numbered) → option_map_or (λ (s : Numbered). entry_of config s.number s.node (fin.get mount.staged s.number)) found
-          (entry_of config mount.table.next (new_node path meta n) None)
+          (entry_of config mount.table.next (new_node path meta moment) None)
           ≡ option_map_or shown (option_map bare_shown found) (entry_of config bare.table.next (new_node path meta 0) None)
-      by None = sym (entry_bare config mount.table.next (new_node path meta n) None)
-          ∙ ap (λ next. entry_of config next (new_node path meta 0) None) (next_same n mount.table bare.table so.table)
+      by None = sym (entry_bare config mount.table.next (new_node path meta moment) None)
+          ∙ ap (λ next. entry_of config next (new_node path meta 0) None) (next_same Known mount.table bare.table so.table)
       by (Some s) = sym (entry_bare config s.number s.node (fin.get mount.staged s.number))
-          ∙ ap (λ staged. entry_of config s.number (bare_node s.node) (fin.get staged s.number)) (staged_same n mount bare so)
+          ∙ ap (λ staged. entry_of config s.number (bare_node s.node) (fin.get staged s.number)) (staged_same Known mount bare so)
 
   pub reply_with_bare : (number count : ℕ) → getattr.reply_with config mount.table mount.staged number count ≡ getattr.reply_with config bare.table bare.staged number count
   reply_with_bare number count =
-      ap (λ (staged : StagedFiles). getattr.reply_with config mount.table staged number count) (staged_same n mount bare so)
+      ap (λ (staged : StagedFiles). getattr.reply_with config mount.table staged number count) (staged_same Known mount bare so)
       ∙ by (fin.get mount.table.nodes number)
-      ∙ sym (ap (λ found. option_map_or told found (Error estale)) (found_bare n mount.table bare.table so.table number))
+      ∙ sym (ap (λ found. option_map_or told found (Error estale)) (found_bare Known mount.table bare.table so.table number))
     where
       told : Node → Reply
       told node = Attr (record (attributes config number node (fin.get bare.staged number)) { nlink = count })

@@ -1,5 +1,5 @@
 -- The call that ends at the end of an account: how it was done, and what its items are.
-use Rattle.std.proofs.Common.{◌≡◌, List, [], ◌∷◌, refl, sym, subst, ◌∙◌}
+use Rattle.std.proofs.Common.{◌≡◌, ℕ, List, [], ◌∷◌, refl, sym, subst, ◌∙◌}
 use Rattle.bucket_api.specs.BucketState.{BucketState}
 use Rattle.bucket_api.specs.LogEvent.{LogEvent}
 use Rattle.bucket_api.specs.Operation.{Operation}
@@ -9,7 +9,7 @@ use Rattle.history_spec.proofs.Walking.{Walked}
 use Rattle.history_spec.specs.Account.{Account, Item, looked, made, moment_of, own_moments_of, recalled}
 use Rattle.history_spec.specs.Fits.{MayBeDone, MayFollow, MayTell}
 use Rattle.history_spec.specs.JournalState.{OpenCall, first_journal, reached}
-use Rattle.history_spec.specs.Looks.{IsLook}
+use Rattle.history_spec.specs.Looks.{IsLook, MayRecall}
 use Rattle.mount_laws.proofs.Keeping.{same_Some}
 use Rattle.mount_model.specs.declared.config.Config.{Config}
 use Rattle.mount_rules.specs.Plans.{Allows, Plan, Step, done}
@@ -35,8 +35,8 @@ module _ (start : BucketState) (log : List LogEvent) (o : OpenCall) where
   own_made op (recalled moment) may other items = absurd (other may.0)
   own_made op (made moment) may other items = refl
 
-  -- and so is one that tells of a look, while no record serves
-  pub own_looked : (op : Operation) (item : Item) → MayTell o op item → IsLook op → (items : List Item) → own_moments_of (item ∷ items) ≡ moment_of item ∷ own_moments_of items
-  own_looked op (looked moment kept) may look items = refl
-  own_looked op (recalled moment) may look items = absurd may.1
-  own_looked op (made moment) may look items = absurd (may look)
+  -- and so is one that tells of a look, where no record serves
+  pub own_looked : (op : Operation) (item : Item) → MayTell o op item → ((moment : ℕ) → MayRecall o op moment → ⊥) → IsLook op → (items : List Item) → own_moments_of (item ∷ items) ≡ moment_of item ∷ own_moments_of items
+  own_looked op (looked moment kept) may none look items = refl
+  own_looked op (recalled moment) may none look items = absurd (none moment may.1)
+  own_looked op (made moment) may none look items = absurd (may look)

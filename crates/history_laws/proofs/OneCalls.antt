@@ -16,7 +16,10 @@ use Rattle.fuse_replies.specs.declared.reply.Reply.{Reply}
 use Rattle.fuse_replies.specs.declared.reply.Reply.TheVariants.{Error}
 use Rattle.fuse_requests.specs.declared.request.Request.{Request}
 use Rattle.history_laws.proofs.Alike.{Alike, ToldAlike, after_alike, alike_later, failed_after, failed_reply, plan_alike, reply_alike, told_equal, told_then, wants_alike}
-use Rattle.history_laws.proofs.AloneWalks.{ShownFrom, Unread, front_shown, late_shown, store_by, unread_all, unread_first, unread_none}
+use Rattle.history_laws.proofs.AloneWalks.{ShownFrom, Unread, store_by, unread_all, unread_first, unread_none}
+use Rattle.history_laws.proofs.Bare.{IsWithin, UpTo, up_to_later}
+use Rattle.history_laws.proofs.BareEnds.{IsLate, late_between}
+use Rattle.history_laws.proofs.ShownAgain.{AreNamed}
 use Rattle.history_laws.proofs.ReadingPlans.{CameOut, behind_reads, came_out, found_gone, given, inserted, reading}
 use Rattle.history_laws.proofs.SameStores.{SameStore, made_by, store_idle}
 use Rattle.history_laws.proofs.SourceReaders.{Flushes, IsFlushing, ReadsFirst, ReadsNothing, content_gone, flush_refused, kind_of, plan_behind, told_behind, wanted_of}
@@ -30,7 +33,7 @@ use Rattle.mount_model.specs.declared.journal.How.TheVariants as how
 use Rattle.mount_rules.specs.Dispatch.{goes_on, mount_after, plan, reply_to, taken_at, view_in, wants}
 use Rattle.mount_rules.specs.Mount.{MountModel}
 use Rattle.mount_rules.specs.OneThread.{Call, Ending, IsLawful, Observes, RunState, at_state, performed, plan_at, reply_in, short, stale, state_after_call}
-use Rattle.mount_rules.specs.Plans.{IsHarmless, MayEnd, Plan, Step, Wanted, answers_of, ask, asked_by, done, plan_after}
+use Rattle.mount_rules.specs.Plans.{IsHarmless, MayEnd, Plan, Step, Wanted, answers_of, ask, asked_by, done, last_moment, plan_after}
 use Rattle.mount_rules.specs.Reading.{source_of}
 use Rattle.mount_rules.specs.Rules.{AtTake}
 use Rattle.mount_rules.specs.View.{Sight}
@@ -70,7 +73,8 @@ insert_refused b file last op request flushes is numbered away =
     same_ask : {x y : Operation} → ask x ≡ ask y → x ≡ y
     same_ask e = cc
 
-module _ (config : Config) (start : BucketState) (log : List LogEvent) (front upto : ℕ) (past : List LogEvent) (mount other : MountModel) (request : Request) where
+module _ (config : Config) (start : BucketState) (log : List LogEvent) (front upto : ℕ) (past : List LogEvent) (Known Then : List ℕ → ℕ → ℕ → Type 0) (mount other : MountModel)
+    (request : Request) where
   -- the one-thread mount, before the call
   abbrev pub run : RunState
   run = record { mount = other; store = store_by start log past }
@@ -80,7 +84,10 @@ module _ (config : Config) (start : BucketState) (log : List LogEvent) (front up
 
   -- The mount of an account stands as that of a run, over the same bucket; and a call of it has observed this, and ended so.
   pub record Stood (h : How) (seen : List Observed) : Type 0 where
-    pub alike : Alike front (length past) mount other
+    pub alike : Alike Known (UpTo (length past)) mount other
+    pub within : IsWithin Known Then
+    pub named : AreNamed mount.table
+    pub late : IsLate Known Then (last_moment seen) (taken_at at mount request) mount request (answers_of seen)
     pub same : SameStore start log front past
     pub shown : ShownFrom start log upto front (plan at mount request) seen
     pub ends : EndsBy h (plan at mount request) seen
@@ -99,18 +106,19 @@ module _ (config : Config) (start : BucketState) (log : List LogEvent) (front up
     pub reply : reply_in config run call ≡ ended_reply at mount request h seen
     pub log_then : List LogEvent
     pub store : (state_after_call config run call).store ≡ store_by start log log_then
-    pub alike : Alike upto (length log_then) (ended_mount at mount request h seen) (state_after_call config run call).mount
+    pub alike : Alike Then (UpTo (length log_then)) (ended_mount at mount request h seen) (state_after_call config run call).mount
     pub same : SameStore start log upto log_then
 
   module _ (h : How) (seen : List Observed) (stood : Stood h seen) where
     planned : plan at mount request ≡ plan_at config run request
-    planned = plan_alike front (length past) mount other stood.alike request at
-
-    risen : front ≤ upto
-    risen = front_shown start log upto front (plan at mount request) seen stood.shown
+    planned = plan_alike Known (UpTo (length past)) mount other stood.alike request at
 
     abbrev Walked : Type 0
     Walked = Unread start log (plan at mount request) upto past
+
+    late_told : (walked : Walked) → IsLate (UpTo (length past)) (UpTo (length walked.log_then)) (last_moment walked.told) (taken_at at other request) other request (answers_of walked.told)
+    late_told walked = late_between (length past) (length walked.log_then) (last_moment walked.told) (taken_at at other request) other stood.alike.other_is.table.known
+        request (answers_of walked.told) walked.late
 
     call_of : Walked → Ending → Call
     call_of walked ending = record { unique = 0; request = request; seen = walked.told; ending = ending }
@@ -127,12 +135,12 @@ module _ (config : Config) (start : BucketState) (log : List LogEvent) (front up
       };
       ending = refl;
       stale_is = λ never. absurd (cc);
-      reply = sym (reply_alike front (length past) mount other stood.alike request at seen walked.told tells upto (length walked.log_then) risen walked.grows
-          (late_shown start log upto front (plan at mount request) seen stood.shown) walked.late);
+      reply = sym (reply_alike Known (UpTo (length past)) mount other stood.alike request at seen walked.told tells Then (UpTo (length walked.log_then)) stood.within
+          (up_to_later (length past) (length walked.log_then) walked.grows) stood.named stood.late (late_told walked));
       log_then = walked.log_then;
       store = walked.leaves;
-      alike = after_alike front (length past) mount other stood.alike request at seen walked.told tells upto (length walked.log_then) risen walked.grows
-          (late_shown start log upto front (plan at mount request) seen stood.shown) walked.late;
+      alike = after_alike Known (UpTo (length past)) mount other stood.alike request at seen walked.told tells Then (UpTo (length walked.log_then)) stood.within
+          (up_to_later (length past) (length walked.log_then) walked.grows) stood.named stood.late (late_told walked);
       same = walked.same;
     }
 
@@ -151,7 +159,7 @@ module _ (config : Config) (start : BucketState) (log : List LogEvent) (front up
       reply = refl;
       log_then = walked.log_then;
       store = walked.leaves;
-      alike = alike_later front (length past) upto (length walked.log_then) mount other risen walked.grows stood.alike;
+      alike = alike_later Known (UpTo (length past)) Then (UpTo (length walked.log_then)) mount other stood.within (up_to_later (length past) (length walked.log_then) walked.grows) stood.alike;
       same = walked.same;
     }
 
@@ -225,8 +233,7 @@ module _ (config : Config) (start : BucketState) (log : List LogEvent) (front up
     of_stale content not_found away same = by (wants config mount request) refl (stood.wanted content refl answered)
       where
         answered : reply_to at mount request seen ≡ Error estale
-        answered = failed_reply front (length past) mount other stood.alike request first.goes at seen upto (risen how.Ok seen stood)
-            (late_shown start log upto front (plan at mount request) seen stood.shown) estale
+        answered = failed_reply Known (UpTo (length past)) mount other stood.alike request first.goes at seen Then stood.within stood.named stood.late estale
             ((tells (answers.NotFound ∷ []) not_found).reply (taken_at at mount request) stood.alike.bare ∙ (content_gone request content).reply (taken_at at mount request) stood.alike.bare)
 
         by : (found : Option Wanted) → wants config mount request ≡ found → IsSome found → OneCall how.Ok seen
@@ -238,7 +245,7 @@ module _ (config : Config) (start : BucketState) (log : List LogEvent) (front up
             observed = tt;
             ends = record {
               wanted = wanted;
-              wants_it = sym (wants_alike front (length past) mount other stood.alike request config) ∙ is;
+              wants_it = sym (wants_alike Known (UpTo (length past)) mount other stood.alike request config) ∙ is;
               gone =
                   let its = wanted_of config mount request first.file wanted content first.seen is in
                   ap (λ b. object_of b wanted.name wanted.generation) stood.same.bucket
@@ -252,8 +259,7 @@ module _ (config : Config) (start : BucketState) (log : List LogEvent) (front up
           reply = sym answered;
           log_then = past;
           store = refl;
-          alike = failed_after front (length past) mount other stood.alike request first.goes at seen upto (risen how.Ok seen stood)
-              (late_shown start log upto front (plan at mount request) seen stood.shown)
+          alike = failed_after Known (UpTo (length past)) mount other stood.alike request first.goes at seen Then stood.within stood.named stood.late
               ((tells (answers.NotFound ∷ []) not_found).after (taken_at at mount request) stood.alike.bare ∙ (content_gone request content).after (taken_at at mount request) stood.alike.bare);
           same = same;
         }

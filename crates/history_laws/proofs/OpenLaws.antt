@@ -19,34 +19,43 @@ use Rattle.fuse_replies.specs.Errno.{eio, enomem, estale}
 use Rattle.fuse_replies.specs.declared.reply.Reply.TheVariants.{Error, Opened}
 use Rattle.fuse_requests.specs.declared.request.Request.{Request}
 use Rattle.fuse_requests.specs.declared.request.Request.TheVariants.{Opening}
+use Rattle.bucket_api.specs.Listing.{ends_in_slash}
+use Rattle.history_laws.proofs.Along.{Stands, stands}
+use Rattle.history_laws.proofs.Clocks.{IsTakenIn, clocks, none_serves, path_no_slash}
 use Rattle.history_laws.proofs.Generations.{no_older}
 use Rattle.history_laws.proofs.LastCalls.{done_last, no_items, own_looked}
 use Rattle.history_laws.proofs.Moments.{Told, moment_step, told_at}
-use Rattle.history_laws.specs.Ends.{CallEnd, IsLast, mount_at}
+use Rattle.history_laws.specs.Ends.{CallEnd, IsLast, mount_at, turn_of}
 use Rattle.history_laws.specs.Flushes.{before_moment}
 use Rattle.history_laws.specs.Opens.{IsFresh, OpensAreFresh}
+use Rattle.history_spec.proofs.Following.{Follows-first}
+use Rattle.history_spec.proofs.Lanes.{at_lane}
 use Rattle.history_spec.proofs.OwnMoments.{own_between}
 use Rattle.history_spec.proofs.Walking.{Walked, Walked-walks}
 use Rattle.history_spec.specs.Account.{Account, Item, moment_of, own_moments_of}
 use Rattle.history_spec.specs.Fits.{MayBeDone, plan_of}
-use Rattle.history_spec.specs.JournalState.{reached, reply_by}
-use Rattle.history_spec.specs.Looks.{IsLook}
+use Rattle.history_spec.specs.JournalState.{first_journal, reached, reply_by}
+use Rattle.history_spec.specs.Looks.{IsLook, MayRecall}
 use Rattle.history_spec.specs.Observing.{observed_at, own_moments, seen_by}
 use Rattle.mount_laws.proofs.Guarding.{in_file-none}
 use Rattle.mount_laws.proofs.Keeping.{same_Some}
 use Rattle.mount_laws.proofs.RequestLaws.{unrefused}
+use Rattle.mount_laws.proofs.StagedContents.{SeesFileAt-seen}
 use Rattle.mount_model.specs.Observing.{Observed}
 use Rattle.mount_model.specs.declared.config.Config.{Config}
 use Rattle.mount_model.specs.declared.journal.How.{How}
 use Rattle.mount_model.specs.declared.journal.How.TheVariants as how
 use Rattle.mount_rules.specs.Dispatch.{early, plan, reply_to, view_in}
 use Rattle.mount_rules.specs.Guards.{is_directory}
-use Rattle.mount_rules.specs.Mount.{MountModel}
+use Rattle.mount_rules.specs.Mount.{File, IsKeptOf, IsNameOf, MountModel}
 use Rattle.mount_rules.specs.Plans.{MayEnd, Plan, answers_of, done}
 use Rattle.mount_rules.specs.Requests.Open as opening
 use Rattle.mount_rules.specs.Standing as standing
 use Rattle.mount_rules.specs.Standing.{Standing}
 use Rattle.mount_rules.specs.View.{Sight, sight_at}
+use Rattle.object_names.specs.Paths.{IsPath}
+use Rattle.object_names.specs.declared.shown.NodeKind.{NodeKind}
+use Rattle.object_names.specs.declared.shown.NodeKind.TheVariants as kinds
 
 -- ---- what its answer shows
 -- an answer of metadata to a stat is that of the live object, which the stat leaves
@@ -76,6 +85,11 @@ well_by mount generation fh (answers.Page page) told = absurd (let never : Error
 well_by mount generation fh answers.Done told = absurd (let never : Error eio ≡ Opened fh = told in cc)
 well_by mount generation fh (answers.Precondition g m) told = absurd (let never : Error eio ≡ Opened fh = told in cc)
 well_by mount generation fh answers.Fault told = absurd (let never : Error eio ≡ Opened fh = told in cc)
+
+-- a node of which parts of a file are kept has a path
+is_path : (kind : NodeKind) (name : List ℕ) (file : File) → IsKeptOf kind (Some file) → IsNameOf kind name → IsPath name
+is_path kinds.Dir name file kept named = absurd (let never : Some file ≡ None = kept in cc)
+is_path _ name file kept named = named
 
 -- ---- its walk
 module _ (config : Config) (start : BucketState) (log : List LogEvent) (account : Account) (e : CallEnd) (last : IsLast config start log account e)
@@ -131,15 +145,15 @@ module _ (config : Config) (start : BucketState) (log : List LogEvent) (account 
           fresh meta shows (shown_object t.event.mode (before_moment start log (moment_of item)) file.name meta
           (ap (λ (x : Operation). answer_by t.event.mode x (before_moment start log (moment_of item))) (sym op) ∙ sym t.answer ∙ is_meta))
 
-  of_walk : (items : List Item) → e.items ≡ items → Walked start log e.call asks items → MayEnd (asks (answers_of (seen_by start log items)))
+  of_walk : ((moment : ℕ) → MayRecall e.call (stat file.name) moment → ⊥) → (items : List Item) → e.items ≡ items → Walked start log e.call asks items → MayEnd (asks (answers_of (seen_by start log items)))
       → own_moments_of e.items ≡ own_moments log e.call.call.lane e.call.front e.front
       → opening.reply_to mount (standing.standing file.source (answers_of (seen_by start log items))) ≡ Opened fh
       → IsFresh start log file e.call.front (own_moments_of e.items)
-  of_walk [] are walked ends mine told = absurd ends
-  of_walk (item ∷ items) are walked ends mine told =
+  of_walk none_may [] are walked ends mine told = absurd ends
+  of_walk none_may (item ∷ items) are walked ends mine told =
       let none : items ≡ [] = no_items start log e.call (λ answers. asks (walked.0.answer ∷ answers)) refl items walked.4 in
       of_stat item walked.0 walked.1 walked.2
-      (ap own_moments_of are ∙ own_looked start log e.call walked.0.op item walked.3 (subst IsLook (sym walked.2) tt) items ∙ ap (λ its. moment_of item ∷ own_moments_of its) none) mine
+      (ap own_moments_of are ∙ own_looked start log e.call walked.0.op item walked.3 (λ m may. none_may m (subst (λ (op : Operation). MayRecall e.call op m) walked.2 may)) (subst IsLook (sym walked.2) tt) items ∙ ap (λ its. moment_of item ∷ own_moments_of its) none) mine
       (sym (ap (λ seen. opening.reply_to mount (standing.standing file.source (answers_of (cons_option seen (seen_by start log items))))) walked.1) ∙ told)
 
   -- ---- it goes on
@@ -171,11 +185,22 @@ module _ (config : Config) (start : BucketState) (log : List LogEvent) (account 
         ∙ ap (λ seen. standing.plan (option_and_then (standing.name_of None) seen)) seen_file
         ∙ ap (λ directory. standing.plan (if directory then None else Some file.name)) (is_file free)
 
-    of_done : MayBeDone start log (reached config start log account) e.call e.front how.Ok e.items → early mount request ≡ None
+    -- no record serves it where records of objects serve for no time
+    no_record : config.stat_lifetime ≡ 0 → early mount request ≡ None → (moment : ℕ) → MayRecall e.call (stat file.name) moment → ⊥
+    no_record lifetime free moment =
+        let s = SeesFileAt-seen mount node file stood.is seen_file (is_file free) in
+        none_serves config (reached config start log account).clock e.call (stat file.name) moment lifetime
+        (at_lane (IsTakenIn config (reached config start log account).clock) (reached config start log account).opened e.call.call.lane e.call last.under_way (clocks config start log account).opened)
+        (ap ends_in_slash s.name ∙ path_no_slash s.node.name (is_path s.node.kind s.node.name s.file (subst (IsKeptOf s.node.kind) s.is (stood.is.files node s.node s.there)) (stood.is.names node s.node s.there)))
+      where
+        stood : Stands start log (reached config start log account)
+        stood = stands config start log last.bucket last.allowed account (Follows-first config start log first_journal account (turn_of e ∷ []) last.is.follows)
+
+    of_done : config.stat_lifetime ≡ 0 → MayBeDone start log (reached config start log account) e.call e.front how.Ok e.items → early mount request ≡ None
         → reply_to e.call.taken.at mount request (seen_by start log e.items) ≡ Opened fh → IsFresh start log file e.call.front (own_moments_of e.items)
-    of_done may free told =
+    of_done lifetime may free told =
         let is : plan_of (reached config start log account) e.call ≡ asks = ap (λ (r : Request). plan e.call.taken.at mount r) is_open ∙ plan_so free in
-        of_walk e.items refl
+        of_walk (no_record lifetime free) e.items refl
         (subst (λ (p : Plan). Walked start log e.call p e.items) is
         (Walked-walks start log e.call (plan_of (reached config start log account) e.call) e.items may.walk.told may.walk.walked))
         (subst (λ (p : Plan). MayEnd (p (answers_of (seen_by start log e.items)))) is may.ends) may.walk.own
@@ -186,7 +211,7 @@ module _ (config : Config) (start : BucketState) (log : List LogEvent) (account 
 pub opens_are_fresh : OpensAreFresh
 opens_are_fresh config start log account e node flags fh file lifetime last is_open seen_file unstaged told =
     let well = answered config start log account e last node flags fh file seen_file unstaged is_open e.how refl told in
-    of_done config start log account e last node flags fh file seen_file unstaged is_open
+    of_done config start log account e last node flags fh file seen_file unstaged is_open lifetime
     (subst (λ h. MayBeDone start log (reached config start log account) e.call e.front h e.items) well.1 (done_last config start log account e last))
     (unrefused_so config start log account e last node flags fh file seen_file unstaged is_open (early (mount_at config start log account) (Opening node flags)) refl well.0)
     well.0

@@ -12,9 +12,10 @@ use Rattle.bucket_api.specs.declared.answers.Answer.{Answer}
 use Rattle.bucket_api.specs.declared.answers.Answer.TheVariants as answers
 use Rattle.bucket_api.specs.declared.objects.Object.{Object}
 use Rattle.history_laws.proofs.AloneWalks.{ShownFrom}
-use Rattle.history_laws.proofs.Asking.{is_read}
 use Rattle.history_laws.proofs.Moments.{position_step}
 use Rattle.history_laws.proofs.SameStores.{SameStore, made_by, read_idle, store_made, store_read}
+use Rattle.history_spec.proofs.PlanSteps.{is_read}
+use Rattle.history_spec.specs.Looks.{IsLook}
 use Rattle.mount_model.specs.Observing.{Observed}
 use Rattle.mount_rules.specs.Laws.{IsRead}
 use Rattle.mount_rules.specs.Plans.{Allows, IsHarmless, IsReadOf, Plan, Source, Step, answers_of, ask, done, may_read, plan_after}
@@ -78,6 +79,25 @@ inserted_harm (delete name only) is harmless = is
 inserted_harm (copy from generation to stamp) is harmless = is
 inserted_harm (list prefix slash max after) is harmless = is
 
+-- a look is neither a read nor an insert
+look_reads : (op : Operation) → IsRead op → IsLook op → ⊥
+look_reads (read name generation first count) is look = look
+look_reads (stat name) is look = is
+look_reads (insert name content pairs only stamp) is look = is
+look_reads (update name pairs only only_meta stamp) is look = is
+look_reads (delete name only) is look = is
+look_reads (copy from generation to stamp) is look = is
+look_reads (list prefix slash max after) is look = is
+
+look_inserts : (op : Operation) → IsInsert op → IsLook op → ⊥
+look_inserts (insert name content pairs only stamp) is look = look
+look_inserts (stat name) is look = is
+look_inserts (read name generation first count) is look = is
+look_inserts (update name pairs only only_meta stamp) is look = is
+look_inserts (delete name only) is look = is
+look_inserts (copy from generation to stamp) is look = is
+look_inserts (list prefix slash max after) is look = is
+
 -- what a read of the source is answered: bytes, or that the source is gone
 data ReadAnswer (source : Source) (b : BucketState) (answer : Answer) : Type 0 where
   with_bytes : (bytes : List ℕ) → answer ≡ answers.Bytes bytes → ReadAnswer source b answer
@@ -110,11 +130,23 @@ module _ (start : BucketState) (log : List LogEvent) (source : Source) (last : S
   -- nothing is observed along a plan that is done
   nothing_more : (k : ℕ) (plan : Plan) (more : List Observed) → plan [] ≡ done → ShownFrom start log upto k plan more → (more ≡ []) × (k ≡ upto)
   nothing_more k plan [] is shown = (refl, shown)
-  nothing_more k plan (o ∷ more) is shown = absurd (subst (λ step. Allows step o.op) is shown.0.allowed)
+  nothing_more k plan (o ∷ more) is (inl shown) = absurd (subst (λ step. Allows step o.op) is shown.0.allowed)
+  nothing_more k plan (o ∷ more) is (inr shown) = absurd (subst (λ step. Allows step o.op) is shown.0.allowed)
+
+  -- no look is asked for on the way
+  no_look : (op : Operation) → Allows (may_read source last) op → IsLook op → ⊥
+  no_look op (inl reads) look = look_reads op (is_read source op reads) look
+  no_look op (inr allowed) look = of_last last refl allowed
+    where
+      of_last : (l : Step) → last ≡ l → Allows l op → ⊥
+      of_last done is never = never
+      of_last (ask asked) is same = look_inserts op (subst IsInsert (sym same) (subst IsLast is ends)) look
+      of_last (may_read s next) is never = subst IsLast is ends
 
   pub came_out : (seen : List Observed) (k : ℕ) (past : List LogEvent) → ShownFrom start log upto k (reading source last) seen → SameStore start log k past → CameOut k past seen
   came_out [] k past shown so = given refl (subst (λ n. SameStore start log n past) shown so)
-  came_out (o ∷ more) k past shown so = by shown.0.allowed (λ s. came_out more (suc k) past s)
+  came_out (o ∷ more) k past (inr shown) so = absurd (no_look o.op shown.0.allowed shown.0.look)
+  came_out (o ∷ more) k past (inl shown) so = by shown.0.allowed (λ s. came_out more (suc k) past s)
     where
       after_insert : (op : Operation) → last ≡ ask op → IsInsert op → o.op ≡ op → CameOut k past (o ∷ more)
       after_insert op is insert_is asked =

@@ -1,37 +1,47 @@
 -- A call that an account has alone: the run of the one-thread mount goes on with one that agrees.
-use Rattle.std.proofs.Common.{◌≡◌, ◌≤◌, ◌<◌, ◌+◌, ℕ, zero, suc, Bool, true, false, All, List, [], ◌∷◌, ◌++◌, append_assoc, length, length-drop, length-take, take, drop, map, Some, None, refl, sym, ap, subst, ◌∙◌, ◌⊎◌, inl, inr, nat_le, arith}
-use Rattle.std.proofs.lemmas.Bool.Decides.{nat_tests}
+use Rattle.std.proofs.Common.{◌≡◌, ◌≤◌, ◌<◌, ◌+◌, ℕ, zero, suc, true, false, All, List, [], ◌∷◌, ◌++◌, append_assoc, length, length-drop, length-take, take, drop, map, Some, None, refl, sym, ap, subst, ◌∙◌, ◌⊎◌, inl, inr, arith}
 use Rattle.std.proofs.lemmas.List.{map-append, reverse-append}
 use Rattle.std.specs.List.{AllByRecursion, filter_map}
-use Rattle.std.specs.Prelude.{Contains, IsSome, slice_get, unwrap_or}
+use Rattle.std.specs.Prelude.{Contains, slice_get, unwrap_or}
 use Rattle.bucket_api.specs.BucketState.{BucketState, IsBucket}
+use Rattle.bucket_api.specs.BucketStep.{answer_to}
 use Rattle.bucket_api.specs.Log.{event_at, state_at}
 use Rattle.bucket_api.specs.LogEvent.{LogEvent}
 use Rattle.bucket_api.specs.Operation.{IsAllowed}
 use Rattle.bucket_api.specs.declared.events.Mode.TheVariants as modes
-use Rattle.fuse_replies.specs.Errno.{estale}
 use Rattle.fuse_replies.specs.declared.reply.Reply.{Reply}
-use Rattle.fuse_replies.specs.declared.reply.Reply.TheVariants.{Error}
 use Rattle.fuse_requests.specs.declared.request.Request.{Request}
 use Rattle.fuse_requests.specs.declared.request.Request.TheVariants.{Flush, Fsync}
 use Rattle.history_laws.proofs.Alike.{Alike}
-use Rattle.history_laws.proofs.AloneWalks.{ShownFrom, shown_from, store_by}
+use Rattle.history_laws.proofs.AloneWalks.{MayStillRecall, ShownFrom, never, of_record, shown_from, still, store_by}
 use Rattle.history_laws.proofs.Along.{Stands, source_numbered, stands_along}
+use Rattle.history_laws.proofs.Bare.{IsWithin, UpTo}
+use Rattle.history_laws.proofs.BareEnds.{IsLate}
+use Rattle.history_laws.proofs.ShownAgain.{AreNamed}
 use Rattle.history_laws.proofs.CallPairs.{IsPair, after_pair, all_of_lane, call_taken, contains_cons, contains_where, get_some, later_own, pair_of}
+use Rattle.history_laws.proofs.KnownMoments.{IsToldKnown, known_stays, not_below, walk_news}
+use Rattle.history_laws.proofs.LookPlans.{plan_asks_looks}
 use Rattle.history_laws.proofs.OneCalls.{OneCall, Stood, ended_mount, ended_reply, one_call}
+use Rattle.history_laws.proofs.Records.{first_of}
+use Rattle.history_laws.proofs.RecordsNow.{record_shows_now}
 use Rattle.history_laws.proofs.SameStores.{SameStore}
 use Rattle.history_laws.proofs.SourceReaders.{IsFlushing}
-use Rattle.history_laws.specs.Agreements.{IsReadOrWrite, StaleWantBytes, how_of, replies_in, request_of, told_as}
+use Rattle.history_laws.proofs.StaleTurns.{StaleWants}
+use Rattle.history_laws.proofs.ToldPasts.{AreToldPasts, told_along}
+use Rattle.history_laws.proofs.Untouched.{LooksAt}
+use Rattle.history_laws.proofs.WalkNews.{walk_late}
+use Rattle.history_laws.specs.Agreements.{IsReadOrWrite, how_of, replies_in, request_of, told_as}
 use Rattle.history_laws.specs.Apart.{OneByOne}
-use Rattle.history_spec.proofs.Following.{after_turns-append}
 use Rattle.history_spec.proofs.OwnMoments.{own_between}
-use Rattle.history_spec.proofs.Walking.{Walked-walks}
+use Rattle.history_spec.proofs.Walking.{Walked, Walked-walks}
 use Rattle.history_spec.proofs.Lanes.{open_of-first}
 use Rattle.history_spec.specs.Account as account
 use Rattle.history_spec.specs.Account.{Account, Item, Turn, own_moments_of}
 use Rattle.history_spec.specs.Fits.{EndsBy, Follows, plan_of}
-use Rattle.history_spec.specs.JournalState.{EndedCall, JournalState, OpenCall, after_turn, after_turns, at_front, ended_by, first_journal, mount_by, open_of, reached, replies_of, reply_by, with_taken}
-use Rattle.history_spec.specs.Observing.{moments_of, own_moments, seen_by}
+use Rattle.history_spec.specs.JournalState.{EndedCall, JournalState, OpenCall, after_turn, after_turns, at_front, ended_by, mount_by, past_of, replies_of, reply_by, with_taken}
+use Rattle.history_spec.specs.Looks.{IsLook, MayRecall, keys_taken}
+use Rattle.history_spec.specs.Observing.{moments_of, observed_at, own_moments, seen_by}
+use Rattle.history_spec.specs.Pasts.{key_of, past_by}
 use Rattle.mount_laws.proofs.Guarding.{on_open_file-none}
 use Rattle.mount_laws.proofs.Keeping.{same_Some}
 use Rattle.mount_laws.proofs.RequestLaws.{unrefused}
@@ -41,11 +51,13 @@ use Rattle.mount_model.specs.declared.gate.CallId.{CallId}
 use Rattle.mount_model.specs.declared.journal.Fill.{Fill}
 use Rattle.mount_model.specs.declared.journal.How.{How}
 use Rattle.mount_model.specs.declared.journal.How.TheVariants as how
-use Rattle.mount_rules.specs.Dispatch.{goes_on, plan, view_in, wants}
+use Rattle.mount_rules.specs.Dispatch.{goes_on, plan, taken_at, view_in}
 use Rattle.mount_rules.specs.Guards.{is_directory}
-use Rattle.mount_rules.specs.Mount.{MountModel, second_at}
+use Rattle.mount_rules.specs.Mount.{MountModel, Node, second_at}
 use Rattle.mount_rules.specs.OneThread.{Call, IsRun, RunState, at_state, bucket_of, reply_in, stale, state_after_call, state_after_calls}
+use Rattle.mount_rules.specs.Plans.{answers_of, last_moment}
 use Rattle.mount_rules.specs.View.{Sight}
+use Rattle.record_spec.specs.RecordList.{Key}
 
 -- ---- by how a call ended
 reply_so : (start : BucketState) (log : List LogEvent) (mount : MountModel) (o : OpenCall) (h : How) (items : List Item)
@@ -67,53 +79,24 @@ told_more state e =
     ap (map (λ (r : CallId × Reply). r.1)) (reverse-append ((e.call, e.reply) ∷ []) (map (λ (d : EndedCall). (d.call, d.reply)) state.ended))
     ∙ map-append (λ (r : CallId × Reply). r.1) (replies_of state) ((e.call, e.reply) ∷ [])
 
-pub not_below : (m n : ℕ) → (m < n → ⊥) → n ≤ m
-not_below m n never = by (nat_le n m) refl
-  where
-    by : (b : Bool) → nat_le n m ≡ b → n ≤ m
-    by true is = grind (arith, nat_tests)
-    by false is = absurd (never (grind (arith, nat_tests)))
-
 module _ (config : Config) (start : BucketState) (log : List LogEvent) where
-  -- ---- READs and WRITEs that are answered ESTALE, turn by turn
-  abbrev pub StaleWants : JournalState → Turn → Type 0
-  StaleWants state (account.done call front h items fill) =
-      (o : OpenCall) → open_of state.opened call.lane ≡ Some o → o.call ≡ call → IsReadOrWrite o.taken.request
-      → reply_by start log state.mount o h items ≡ Error estale → IsSome (wants config state.mount o.taken.request)
-  StaleWants state turn = Unit {0}
-
-  abbrev pub StaleAlong : JournalState → Account → Type 0
-  StaleAlong state [] = Unit {0}
-  StaleAlong state (turn ∷ turns) = StaleWants state turn × StaleAlong (after_turn config start log state turn) turns
-
-  stale_at : (whole before after : Account) (turn : Turn) → whole ≡ before ++ turn ∷ after → StaleWantBytes config start log whole → StaleWants (reached config start log before) turn
-  stale_at whole before after (account.take call front request) cut stale_wants = tt
-  stale_at whole before after (account.done call front h items fill) cut stale_wants = λ o found same content answered.
-      stale_wants before after (record { call = o; front = front; how = h; items = items; fill = fill })
-      (cut ∙ ap (λ c. before ++ account.done c front h items fill ∷ after) (sym same))
-      (ap (λ (c : CallId). open_of (reached config start log before).opened c.lane) same ∙ found) content answered
-  stale_at whole before after (account.tick front seconds) cut stale_wants = tt
-
-  pub stale_along : (whole before turns : Account) → whole ≡ before ++ turns → StaleWantBytes config start log whole → StaleAlong (reached config start log before) turns
-  stale_along whole before [] cut stale_wants = tt
-  stale_along whole before (turn ∷ turns) cut stale_wants = (
-    stale_at whole before turns turn cut stale_wants,
-    subst (λ s. StaleAlong s turns) (after_turns-append config start log first_journal before (turn ∷ []))
-        (stale_along whole (before ++ turn ∷ []) turns (cut ∙ sym (append_assoc before (turn ∷ []) turns)) stale_wants),
-  )
-
   -- ---- where the account and the run stand
   abbrev pub run_at : List LogEvent → MountModel → RunState
   run_at past other = record { mount = other; store = store_by start log past }
+
+  -- what the calls that are done tell of moments
+  abbrev pub KnownIn : JournalState → List ℕ → ℕ → ℕ → Type 0
+  KnownIn state = IsToldKnown start log state.front (past_of state.ended)
 
   -- No call is under way, and the mount stands as that of the run, over the same bucket.
   pub record StandsAlone (state : JournalState) (past : List LogEvent) (other : MountModel) : Type 0 where
     pub none : state.opened ≡ []
     pub clock : state.clock ≡ 0
-    pub alike : Alike state.front (length past) state.mount other
+    pub alike : Alike (KnownIn state) (UpTo (length past)) state.mount other
     pub same : SameStore start log state.front past
     pub own_before : (e : EndedCall) (moment : ℕ) → Contains state.ended e → Contains e.own moment → moment ≤ state.front
     pub stands : Stands start log state
+    pub told : AreToldPasts start log state.front state.ended
 
   -- each event is the own one of a call that is done in the end
   abbrev pub OwnAll : JournalState → Account → Type 0
@@ -153,7 +136,7 @@ module _ (config : Config) (start : BucketState) (log : List LogEvent) where
       (state : JournalState) (past : List LogEvent) (other : MountModel) (so : StandsAlone state past other)
       (call : CallId) (front : ℕ) (request : Request) (ended : CallId) (behind : ℕ) (h : How) (items : List Item) (fill : Fill) (turns : Account)
       (follows : Follows config start log state (account.take call front request ∷ account.done ended behind h items fill ∷ turns)) (one : OneByOne turns) (same_call : ended ≡ call)
-      (stale_wants : StaleWants (after_turn config start log state (account.take call front request)) (account.done ended behind h items fill)) where
+      (stale_wants : StaleWants config start log (after_turn config start log state (account.take call front request)) (account.done ended behind h items fill)) where
     pair : IsPair config start log state call front request ended behind h items fill turns
     pair = pair_of config start log state call front request ended behind h items fill turns so.none follows same_call
 
@@ -213,19 +196,64 @@ module _ (config : Config) (start : BucketState) (log : List LogEvent) where
           subst (λ moments. Contains moments m) pair.may.walk.own
           (its_own m (let is = front_is in omega (arith, low, is)) (let c = count in omega (arith, high, c))))
 
+      -- ---- what records show
+      all_follow : OwnAll state (account.take call front request ∷ account.done ended behind h items fill ∷ turns)
+      all_follow = subst (λ s. OwnAll s turns) (sym pair.reaches) own_all
+
+      shows : (moment : ℕ) (x : Observed) → observed_at start log moment ≡ Some x → LooksAt config.implicit_dirs x.op → IsLook x.op → MayRecall o x.op moment
+          → x.answer ≡ answer_to x.op (state_at start log front)
+      shows moment x is at look may =
+          let its = of_record start log complete moment x is in
+          record_shows_now config start log state (account.take call front request ∷ account.done ended behind h items fill ∷ turns) so.none follows (same_call, one)
+          (let onward : state.front ≤ front = pair.onward in let later : front ≤ behind = pair.later in omega (arith, onward, later, within)) so.told all_follow
+          o x.op its.position refl (subst (MayRecall o x.op) its.at may) x its.shown.event at look its.shown.there (sym its.shown.op) its.shown.answer
+          ∙ ap (λ n. answer_to x.op (state_at start log n)) (sym front_is)
+
+      may_recall : MayStillRecall start log complete o config.implicit_dirs front shows (plan_of (with_taken state o) o) front
+      may_recall = by (keys_taken o.taken) refl
+        where
+          by : (keys : List Key) → keys_taken o.taken ≡ keys → MayStillRecall start log complete o config.implicit_dirs front shows (plan_of (with_taken state o) o) front
+          by [] is = never (λ op moment may. let asked : Contains [] (key_of op) = subst (λ keys. Contains keys (key_of op)) is may.asked in
+              let below : asked.0 < 0 = asked.1 in absurd (omega (arith, below)))
+          by (key ∷ keys) is = still (plan_asks_looks o.taken.at state.mount request key (subst (λ keys. Contains keys key) (sym is) (first_of key keys))) refl
+
+      walked : Walked start log o (plan_of (with_taken state o) o) items
+      walked = Walked-walks start log o (plan_of (with_taken state o) o) items pair.may.walk.told pair.may.walk.walked
+
       shown : ShownFrom start log behind front (plan_of (with_taken state o) o) seen
       unfolding events
-      shown = shown_from start log complete o call.lane behind items (plan_of (with_taken state o) o) front events of_lane count
-          (pair.may.walk.own ∙ (let next : front + 1 ≡ suc front = omega arith in ap (λ n. moments_of call.lane n events) next))
-          (Walked-walks start log o (plan_of (with_taken state o) o) items pair.may.walk.told pair.may.walk.walked)
+      shown = shown_from start log complete o config.implicit_dirs front shows call.lane behind items (plan_of (with_taken state o) o) front events of_lane count
+          (pair.may.walk.own ∙ (let next : front + 1 ≡ suc front = omega arith in ap (λ n. moments_of call.lane n events) next)) may_recall walked
+
+      -- ---- what is known of moments
+      own_behind : (moment : ℕ) → Contains (own_moments_of items) moment → state.front < moment
+      own_behind moment there =
+          let above : front < moment = (own_above moment there).0 in
+          let onward : state.front ≤ front = pair.onward in
+          omega (arith, above, onward)
+
+      known_later : IsWithin (KnownIn state) (KnownIn after)
+      known_later = known_stays start log state.front behind (past_of state.ended) (past_by start log o.clock items)
+          (let onward : state.front ≤ front = pair.onward in let later : front ≤ behind = pair.later in omega (arith, onward, later))
+
+      late : IsLate (KnownIn state) (KnownIn after) (last_moment seen) (taken_at o.taken.at state.mount request) state.mount request (answers_of seen)
+      late = walk_late (KnownIn state) (KnownIn after) o.taken.at state.mount so.alike.one_is.table.known seen request
+          (walk_news start log o state.front behind items own_behind items (plan_of (with_taken state o) o) (λ item there. there) pair.may.walk.within walked)
+
+      named : AreNamed state.mount.table
+      named = λ name number node current. let its = so.stands.is.current name number current.0 in
+          ap (λ (n : Node). n.name) (same_Some (sym current.1 ∙ its.there)) ∙ its.named
 
       -- ---- the call of the run
       at_now : at_front config start log state.clock front ≡ at_state config (run_at past other)
       at_now = at_same state past other front so.clock (subst (λ n. SameStore start log n past) (sym front_is) so.same)
 
-      stood : Stood config start log front behind past state.mount other request h seen
+      stood : Stood config start log front behind past (KnownIn state) (KnownIn after) state.mount other request h seen
       stood = record {
-        alike = subst (λ n. Alike n (length past) state.mount other) (sym front_is) so.alike;
+        alike = so.alike;
+        within = known_later;
+        named = named;
+        late = subst (λ a. IsLate (KnownIn state) (KnownIn after) (last_moment seen) (taken_at a state.mount request) state.mount request (answers_of seen)) at_now late;
         same = subst (λ n. SameStore start log n past) (sym front_is) so.same;
         shown = subst (λ a. ShownFrom start log behind front (plan a state.mount request) seen) at_now shown;
         ends = subst (λ a. EndsBy h (plan a state.mount request) seen) at_now pair.may.ends;
@@ -234,8 +262,8 @@ module _ (config : Config) (start : BucketState) (log : List LogEvent) where
             (reply_so start log state.mount o h items ∙ ap (λ x. ended_reply o.taken.at state.mount request x seen) ok ∙ ap (λ a. ended_reply a state.mount request how.Ok seen) at_now ∙ answered);
       }
 
-      pub of_run : OneCall config start log front behind past state.mount other request h seen
-      of_run = one_call config start log front behind past state.mount other request h seen stood
+      pub of_run : OneCall config start log front behind past (KnownIn state) (KnownIn after) state.mount other request h seen
+      of_run = one_call config start log front behind past (KnownIn state) (KnownIn after) state.mount other request h seen stood
 
       abbrev pub run_after : RunState
       run_after = state_after_call config (run_at past other) of_run.call
@@ -250,12 +278,14 @@ module _ (config : Config) (start : BucketState) (log : List LogEvent) where
       stands_next = record {
         none = pair.none;
         clock = so.clock;
-        alike = subst (λ m. Alike behind (length of_run.log_then) m run_after.mount)
+        alike = subst (λ m. Alike (KnownIn after) (UpTo (length of_run.log_then)) m run_after.mount)
             (ap (λ a. ended_mount a state.mount request h seen) (sym at_now) ∙ sym (mount_so start log state.mount o h items)) of_run.alike;
         same = of_run.same;
         own_before = λ e moment there its. by e moment its (contains_cons (ended_by start log state.mount o h items) state.ended e there);
         stands = subst (Stands start log) pair.reaches
             (stands_along config start log bucket allowed state (account.take call front request ∷ account.done ended behind h items fill ∷ []) (follows.0, (follows.1.0, tt)) so.stands);
+        told = subst (λ (s : JournalState). AreToldPasts start log s.front s.ended) pair.reaches
+            (told_along start log config state (account.take call front request ∷ account.done ended behind h items fill ∷ []) (follows.0, (follows.1.0, tt)) so.told);
       }
         where
           by : (e : EndedCall) (moment : ℕ) → Contains e.own moment → (ended_by start log state.mount o h items ≡ e) ⊎ Contains state.ended e → moment ≤ behind

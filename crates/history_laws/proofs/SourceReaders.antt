@@ -12,7 +12,7 @@ use Rattle.fuse_replies.specs.declared.reply.Reply.TheVariants.{Error}
 use Rattle.fuse_requests.specs.declared.request.Request.{Request}
 use Rattle.fuse_requests.specs.declared.request.Request.TheVariants.{Flush, Fsync, Read, Write}
 use Rattle.history_laws.proofs.Alike.{ToldAlike}
-use Rattle.history_laws.proofs.Asking.{AsksNoRead, MayReadSource, plan_reads_nothing}
+use Rattle.history_spec.proofs.PlanSteps.{AsksNoRead, MayReadSource, plan_reads_nothing}
 use Rattle.history_laws.proofs.BareEnds.{bare_after, bare_reply}
 use Rattle.history_laws.proofs.ReadingPlans.{IsLast, behind_reads, reading}
 use Rattle.history_laws.specs.Agreements.{IsReadOrWrite}

@@ -72,12 +72,12 @@ last_table at mount seen (Write node fh first content) last = by (goes_on mount 
 last_table at mount seen _ last = absurd last
 
 -- ---- what a walk tells
-abbrev IsNoMeta : Answer → Type 0
+abbrev pub IsNoMeta : Answer → Type 0
 IsNoMeta (answers.Meta meta) = ⊥
 IsNoMeta answer = Unit {0}
 
 -- a read tells of no metadata
-read_tells : (mode : Mode) (op : Operation) (b : BucketState) → IsRead op → IsNoMeta (answer_by mode op b)
+pub read_tells : (mode : Mode) (op : Operation) (b : BucketState) → IsRead op → IsNoMeta (answer_by mode op b)
 read_tells modes.Failed op b is = tt
 read_tells modes.Lost op b is = tt
 read_tells modes.Done (read name generation first count) b is = by (object_of b name generation)

@@ -6,3 +6,4 @@ pub mod Reads
 pub mod Flushes
 pub mod Opens
 pub mod Agreements
+pub mod Records

@@ -5,6 +5,7 @@ ghost use Rattle.history_laws.specs.Flushes as flushes;
 ghost use Rattle.history_laws.specs.Nodes as nodes;
 ghost use Rattle.history_laws.specs.Opens as opens;
 ghost use Rattle.history_laws.specs.Reads as reads;
+ghost use Rattle.history_laws.specs.Records as records;
 
 /// What a mount promises along any account of it. A node other than the root has the look-ups that were given of it and not
 /// given back, so it is live exactly where that count is above 0. A READ that is answered bytes is answered those of its
@@ -25,4 +26,10 @@ pub fn account_laws()
 pub fn apart_laws()
     ensures sees { apart.EndsSeeAsTaken }
     ensures one { apart.OneByOneIsApart }
+{}
+
+/// What holds of records where calls come one by one, over a log that they alone made without a failure: a record that may
+/// serve a look of a call shows what the bucket answers where the call is taken, so own writes leave no record standing.
+pub fn record_laws()
+    ensures shows { records.RecordsShowNow }
 {}

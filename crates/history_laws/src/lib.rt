@@ -3,4 +3,4 @@
 
 mod laws;
 
-pub use laws::{account_laws, apart_laws};
+pub use laws::{account_laws, apart_laws, record_laws};

@@ -11,6 +11,7 @@ use Rattle.bucket_api.specs.Moments.{moment_at}
 use Rattle.history_spec.specs.Account.{Item, moment_of}
 use Rattle.history_spec.specs.JournalState.{at_front}
 use Rattle.history_spec.specs.Observing.{moments_of, observed_at, own_moments, seen_by}
+use Rattle.history_spec.specs.Pasts.{past_by, saw, told_by, used, wrote}
 use Rattle.mount_model.specs.declared.config.Config.{Config}
 use Rattle.mount_model.specs.Observing.{Observed}
 use Rattle.mount_rules.specs.OneThread.{contents_of}
@@ -51,6 +52,19 @@ module _ (start : BucketState) (one other : List LogEvent) (upto : ℕ) (same : 
   seen_same (item ∷ items) within =
       ap (λ seen. cons_option seen (seen_by start one items)) (observed_same (moment_of item) within.0)
       ∙ ap (λ seen. cons_option (observed_at start other (moment_of item)) seen) (seen_same items within.1)
+
+  told_same : {X : Type 0} (tells : Item → Observed → Option X) (items : List Item) → AllByRecursion (λ item. moment_of item ≤ upto) items
+      → told_by start one tells items ≡ told_by start other tells items
+  told_same tells [] within = refl
+  told_same tells (item ∷ items) within =
+      ap (λ seen. cons_option (option_and_then (tells item) seen) (told_by start one tells items)) (observed_same (moment_of item) within.0)
+      ∙ ap (cons_option (option_and_then (tells item) (observed_at start other (moment_of item)))) (told_same tells items within.1)
+
+  pub past_same : (clock : ℕ) (items : List Item) → AllByRecursion (λ item. moment_of item ≤ upto) items → past_by start one clock items ≡ past_by start other clock items
+  past_same clock items within =
+      ap (λ seen. record (past_by start one clock items) { seen = seen }) (told_same (saw clock) items within)
+      ∙ (ap (λ uses. record { seen = told_by start other (saw clock) items; used = uses; written = told_by start one wrote items }) (told_same used items within)
+      ∙ ap (λ writes. record { seen = told_by start other (saw clock) items; used = told_by start other used items; written = writes }) (told_same wrote items within))
 
   pub own_same : (lane from front : ℕ) → front ≤ upto → own_moments one lane from front ≡ own_moments other lane from front
   own_same lane from front within = ap (λ log. moments_of lane (moment_at from) (drop from log)) (taken_same front within)

@@ -1,5 +1,5 @@
 -- Accounts turn by turn: in parts, and over logs that are the same up to a front.
-use Rattle.std.proofs.Common.{◌≡◌, ℕ, ◌<◌, ◌≤◌, List, [], ◌∷◌, ◌++◌, take, refl, sym, ap, subst, ◌∙◌, arith}
+use Rattle.std.proofs.Common.{◌≡◌, ℕ, ◌≤◌, List, [], ◌∷◌, ◌++◌, take, refl, sym, ap, subst, ◌∙◌, arith}
 use Rattle.std.specs.List.{AllByRecursion}
 use Rattle.std.specs.Option.{option_map_or}
 use Rattle.bucket_api.specs.BucketState.{BucketState}
@@ -7,11 +7,11 @@ use Rattle.bucket_api.specs.LogEvent.{LogEvent}
 use Rattle.history_spec.specs.Account as account
 use Rattle.history_spec.specs.Account.{Account, Item, Turn, front_of, moment_of, own_moments_of}
 use Rattle.history_spec.specs.Fits.{EndsBy, Follows, HasWalked, IsNext, MayBeDone, MayFollow, plan_of}
-use Rattle.history_spec.specs.JournalState.{JournalState, OpenCall, after_done, after_turn, after_turns, others_of, taken_by, with_taken}
-use Rattle.history_spec.specs.Observing.{own_moments, seen_by}
-use Rattle.history_spec.proofs.Agreeing.{at_same, own_same, seen_same}
-use Rattle.history_spec.proofs.OwnMoments.{all_weaker, own_between}
-use Rattle.history_spec.proofs.Walking.{all_settled_same, IsWalk, IsWalk-walked, Walked-walks, items_within, walked_same}
+use Rattle.history_spec.specs.JournalState.{JournalState, OpenCall, after_done, after_turn, after_turns, mount_by, others_of, reply_by, taken_by, with_taken}
+use Rattle.history_spec.specs.Pasts.{past_by}
+use Rattle.history_spec.proofs.Agreeing.{at_same, own_same, past_same, seen_same}
+use Rattle.history_spec.proofs.OwnMoments.{all_weaker}
+use Rattle.history_spec.proofs.Walking.{all_settled_same, IsWalk, IsWalk-walked, Walked-walks, walked_same}
 use Rattle.mount_model.specs.Observing.{Observed}
 use Rattle.mount_model.specs.declared.config.Config.{Config}
 use Rattle.mount_model.specs.declared.journal.How.{How}
@@ -19,6 +19,7 @@ use Rattle.mount_model.specs.declared.journal.How.TheVariants as how
 use Rattle.mount_rules.specs.Dispatch.{mount_after, reply_to}
 use Rattle.mount_rules.specs.Overlap.{opened_at}
 use Rattle.mount_rules.specs.Plans.{Plan}
+use Rattle.record_spec.specs.Past.{Past}
 
 -- ---- what a turn leaves of fronts
 module _ (config : Config) (start : BucketState) (log : List LogEvent) where
@@ -63,16 +64,13 @@ module _ (start : BucketState) (one other : List LogEvent) (upto : ℕ) (same : 
   -- the items of a call that has walked so far by then tell of moments up to there
   pub walk_within : (plan : Plan) (o : OpenCall) (front : ℕ) (items : List Item) → front ≤ upto → HasWalked start one plan o front items
       → AllByRecursion (λ item. moment_of item ≤ upto) items
-  walk_within plan o front items within walk =
-      items_within start one o upto plan items (Walked-walks start one o plan items walk.told walk.walked)
-      (subst (λ moments. AllByRecursion (λ moment. moment ≤ upto) moments) (sym walk.own)
-      (all_weaker (λ moment. (o.front < moment) × (moment ≤ front)) (λ moment. moment ≤ upto)
-      (λ moment is. let seen : moment ≤ front = is.1 in omega arith) (own_moments one o.call.lane o.front front) (own_between one o.call.lane o.front front)))
+  walk_within plan o front items within walk = all_weaker (λ item. moment_of item ≤ front) (λ item. moment_of item ≤ upto) (λ item is. omega (arith, is, within)) items walk.within
 
   pub walk_same : (plan : Plan) (o : OpenCall) (front : ℕ) (items : List Item) → front ≤ upto → HasWalked start one plan o front items
       → HasWalked start other plan o front items
   walk_same plan o front items within walk = record {
     told = over.told;
+    within = walk.within;
     walked = over.walked;
     own = walk.own ∙ own_same start one other upto same o.call.lane o.front front within;
   }
@@ -96,16 +94,27 @@ module _ (config : Config) (start : BucketState) (one other : List LogEvent) (up
   next_same state (account.done call front h items fill) within next = (next.0, next.1, next.2, done_same state next.0 front h items within next.3)
   next_same state (account.tick front seconds) within next = next
 
-  after_done_same : (state : JournalState) (front : ℕ) (h : How) (items : List Item) (o : OpenCall) → seen_by start one items ≡ seen_by start other items
+  after_done_same : (state : JournalState) (front : ℕ) (h : How) (items : List Item) (o : OpenCall) → AllByRecursion (λ item. moment_of item ≤ upto) items
       → after_done start one state front h items o ≡ after_done start other state front h items o
-  after_done_same state front how.Ok items o seen =
+  after_done_same state front how.Ok items o within =
       ap (λ (s : List Observed). record state {
         mount = mount_after o.taken.at state.mount o.taken.request s;
         front = front;
         opened = others_of state.opened o.call.lane;
-        ended = record { call = o.call; own = own_moments_of items; reply = reply_to o.taken.at state.mount o.taken.request s } ∷ state.ended;
-      }) seen
-  after_done_same state front how.NoMemory items o seen = refl
+        ended = record { call = o.call; own = own_moments_of items; past = past_by start one o.clock items; reply = reply_to o.taken.at state.mount o.taken.request s } ∷ state.ended;
+      }) (seen_same start one other upto same items within)
+      ∙ ap (λ (past : Past). record state {
+        mount = mount_by start other state.mount o how.Ok items;
+        front = front;
+        opened = others_of state.opened o.call.lane;
+        ended = record { call = o.call; own = own_moments_of items; past = past; reply = reply_by start other state.mount o how.Ok items } ∷ state.ended;
+      }) (past_same start one other upto same o.clock items within)
+  after_done_same state front how.NoMemory items o within =
+      ap (λ (past : Past). record state {
+        front = front;
+        opened = others_of state.opened o.call.lane;
+        ended = record { call = o.call; own = own_moments_of items; past = past; reply = reply_by start other state.mount o how.NoMemory items } ∷ state.ended;
+      }) (past_same start one other upto same o.clock items within)
 
   after_same : (state : JournalState) (turn : Turn) → front_of turn ≤ upto → IsNext start one state turn
       → after_turn config start one state turn ≡ after_turn config start other state turn
@@ -114,7 +123,7 @@ module _ (config : Config) (start : BucketState) (one other : List LogEvent) (up
       (at_same start one other upto same config state.clock front within)
   after_same state (account.done call front h items fill) within next =
       ap (λ found. option_map_or (after_done start one state front h items) found state) next.1
-      ∙ (after_done_same state front h items next.0 (seen_same start one other upto same items (walk_within start one other upto same (plan_of state next.0) next.0 front items within next.3.walk))
+      ∙ (after_done_same state front h items next.0 (walk_within start one other upto same (plan_of state next.0) next.0 front items within next.3.walk)
       ∙ sym (ap (λ found. option_map_or (after_done start other state front h items) found state) next.1))
   after_same state (account.tick front seconds) within next = refl
 

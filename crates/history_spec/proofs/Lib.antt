@@ -8,6 +8,7 @@ pub mod Lanes
 pub mod LaneLaws
 pub mod OneAccount
 pub mod OwnMoments
+pub mod PlanSteps
 pub mod Settling
 pub mod Walking
 pub mod WalkLaws

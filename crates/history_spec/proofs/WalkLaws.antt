@@ -18,7 +18,7 @@ use Rattle.history_spec.specs.Observing.{observed_at, own_moments, seen_by}
 use Rattle.history_spec.proofs.Agreeing.{seen_same, shown}
 use Rattle.history_spec.proofs.Following.{walk_same, walk_within}
 use Rattle.history_spec.proofs.Lanes.{other_lane, same_lane}
-use Rattle.history_spec.proofs.OwnMoments.{own_behind, own_pushed}
+use Rattle.history_spec.proofs.OwnMoments.{all_weaker, own_behind, own_pushed}
 use Rattle.history_spec.proofs.Walking.{IsWalk, IsWalk-walked, Walked, Walked-walks, walked_same}
 use Rattle.mount_model.specs.Observing.{Observed}
 use Rattle.mount_rules.specs.Plans.{Allows, Plan, answers_of, plan_after}
@@ -61,15 +61,19 @@ own_is_moment (looked m kept) moment is = cc
 own_is_moment (recalled m) moment is = absurd (cc)
 own_is_moment (made m) moment is = cc
 
+all_then : {X : Type 0} (P : X → Type 0) (x : X) (xs : List X) → AllByRecursion P xs → P x → AllByRecursion P (xs ++ x ∷ [])
+all_then P x [] all last = (last, tt)
+all_then P x (y ∷ ys) all last = (all.0, all_then P x ys all.1 last)
+
 pub walk_begins : WalkBegins
-walk_begins start log plan o front = record { told = refl; walked = tt; own = sym (ap (λ from. own_moments log o.call.lane from (length log)) front ∙ own_behind log o.call.lane) }
+walk_begins start log plan o front = record { told = refl; within = tt; walked = tt; own = sym (ap (λ from. own_moments log o.call.lane from (length log)) front ∙ own_behind log o.call.lane) }
 
 longer_same : (log : List LogEvent) (event : LogEvent) → take (length log) log ≡ take (length log) (log ++ event ∷ [])
 longer_same log event = sym (take-append-le (length log) log (event ∷ []) (omega arith))
 
 pub walk_goes_on : WalkGoesOn
 walk_goes_on start log event plan o items item front walk its allowed own may = record {
-  walk = record { told = whole.told; walked = whole.walked; own = mine };
+  walk = record { told = whole.told; within = all_within; walked = whole.walked; own = mine };
   seen = filter_map-append (λ i. observed_at start (log ++ event ∷ []) (moment_of i)) items (item ∷ [])
       ∙ (ap (λ (seen : List Observed). seen ++ cons_option (observed_at start (log ++ event ∷ []) (moment_of item)) []) (sym seen)
       ∙ ap (λ (last : Option Observed). seen_by start log items ++ cons_option last []) shown);
@@ -83,6 +87,14 @@ walk_goes_on start log event plan o items item front walk its allowed own may = 
 
     shown : observed_at start (log ++ event ∷ []) (moment_of item) ≡ Some (shown_by start log event)
     shown = ap (observed_at start (log ++ event ∷ [])) (own_is_moment item (moment_at (length log)) own) ∙ observed_pushed start log event
+
+    long : length (log ++ event ∷ []) ≡ length log + 1
+    long = length-append log (event ∷ [])
+
+    all_within : AllByRecursion (λ i. moment_of i ≤ length (log ++ event ∷ [])) (items ++ item ∷ [])
+    all_within = all_then (λ i. moment_of i ≤ length (log ++ event ∷ [])) item items
+        (all_weaker (λ i. moment_of i ≤ length log) (λ i. moment_of i ≤ length (log ++ event ∷ [])) (λ i is. omega (arith, is, long)) items walk.within)
+        (let at : moment_of item ≡ moment_at (length log) = own_is_moment item (moment_at (length log)) own in omega (arith, at, long))
 
     whole : IsWalk start (log ++ event ∷ []) o plan (items ++ item ∷ [])
     whole = IsWalk-walked start (log ++ event ∷ []) o plan (items ++ item ∷ [])
@@ -101,6 +113,8 @@ walk_goes_on start log event plan o items item front walk its allowed own may = 
 pub walk_stays : WalkStays
 walk_stays start log event plan o items front walk differ = record {
   told = same.told;
+  within = all_weaker (λ i. moment_of i ≤ length log) (λ i. moment_of i ≤ length (log ++ event ∷ []))
+      (λ i is. let long : length (log ++ event ∷ []) ≡ length log + 1 = length-append log (event ∷ []) in omega (arith, is, long)) items walk.within;
   walked = same.walked;
   own = walk.own
       ∙ (sym (append-nil (own_moments log o.call.lane o.front (length log)))

@@ -6,7 +6,7 @@ use Rattle.bucket_api.specs.BucketState.{BucketState, object_at}
 use Rattle.bucket_api.specs.Log.{state_at}
 use Rattle.bucket_api.specs.LogEvent.{LogEvent}
 use Rattle.bucket_api.specs.Operation.{Operation, stat}
-use Rattle.history_spec.specs.Account.{Item, looked, made, moment_of, own_moments_of, recalled}
+use Rattle.history_spec.specs.Account.{Item, looked, made, moment_of, recalled}
 use Rattle.history_spec.specs.Fits.{MayTell, Supplies, items_left}
 use Rattle.history_spec.specs.JournalState.{JournalState, OpenCall}
 use Rattle.history_spec.specs.Looks.{Changes, IsSettled, TellsSettled}
@@ -58,14 +58,6 @@ module _ (start : BucketState) (log : List LogEvent) (o : OpenCall) where
         told = ap (λ s. length (cons_option s (seen_by start log items))) is ∙ ap suc later.told;
         walked = subst (λ s. Walks (Supplies start log o) items_left plan (item ∷ items) (cons_option s (seen_by start log items))) (sym is) ((is, allowed, may), later.walked);
       }
-
-  -- where the own items stand up to a front, each item does
-  pub items_within : (upto : ℕ) (plan : Plan) (items : List Item) → Walked plan items → AllByRecursion (λ moment. moment ≤ upto) (own_moments_of items)
-      → AllByRecursion (λ item. moment_of item ≤ upto) items
-  items_within upto plan [] walked own = tt
-  items_within upto plan (looked moment kept ∷ items) walked own = (own.0, items_within upto (plan_after plan walked.0.answer) items walked.4 own.1)
-  items_within upto plan (recalled moment ∷ items) walked own = absurd walked.3.1
-  items_within upto plan (made moment ∷ items) walked own = (own.0, items_within upto (plan_after plan walked.0.answer) items walked.4 own.1)
 
 -- over logs that are the same up to a front
 module _ (start : BucketState) (one other : List LogEvent) (upto : ℕ) (same : take upto one ≡ take upto other) where

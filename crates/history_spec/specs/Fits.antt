@@ -36,10 +36,11 @@ abbrev pub items_left : List Item → Observed → List Item
 items_left [] seen = []
 items_left (item ∷ items) seen = items
 
--- A call under way has walked so far along a plan with these items, at a front: the log tells what each observed; they are a
--- walk along the plan; and those of its own are all that its lane made since its take.
+-- A call under way has walked so far along a plan with these items, at a front: the log tells what each observed, all of it
+-- by then; they are a walk along the plan; and those of its own are all that its lane made since its take.
 pub record HasWalked (start : BucketState) (log : List LogEvent) (plan : Plan) (o : OpenCall) (front : ℕ) (items : List Item) : Type 0 where
   pub told : length (seen_by start log items) ≡ length items
+  pub within : AllByRecursion (λ item. moment_of item ≤ front) items
   pub walked : Walks (Supplies start log o) items_left plan items (seen_by start log items)
   pub own : own_moments_of items ≡ own_moments log o.call.lane o.front front
 

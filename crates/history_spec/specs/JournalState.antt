@@ -10,6 +10,7 @@ use Rattle.fuse_replies.specs.declared.reply.Reply.TheVariants.{Error}
 use Rattle.history_spec.specs.Account as account
 use Rattle.history_spec.specs.Account.{Account, Item, Turn, own_moments_of}
 use Rattle.history_spec.specs.Observing.{seen_by}
+use Rattle.history_spec.specs.Pasts.{joined, past_by}
 use Rattle.mount_model.specs.declared.config.Config.{Config}
 use Rattle.mount_model.specs.declared.gate.CallId.{CallId}
 use Rattle.mount_model.specs.declared.journal.How.{How}
@@ -20,17 +21,20 @@ use Rattle.mount_rules.specs.OneThread.{contents_of}
 use Rattle.mount_rules.specs.Overlap as overlap
 use Rattle.mount_rules.specs.Overlap.{opened_at}
 use Rattle.mount_rules.specs.Rules.{AtTake}
+use Rattle.record_spec.specs.Past.{Past, no_past}
 
--- A call that is done: the moments of its own events, and what it was answered.
+-- A call that is done: the moments of its own events; what it saw of keys, used and wrote; and what it was answered.
 pub record EndedCall : Type 0 where
   pub call : CallId
   pub own : List ℕ
+  pub past : Past
   pub reply : Reply
 
--- A call under way: how much of the log the mount had seen at its take; its request, what it has and saw from its take, and
+-- A call under way: the seconds since the mount's start, and how much of the log the mount had seen, at its take; its request, what it has and saw from its take, and
 -- the claims that it holds; and which calls were done before.
 pub record OpenCall : Type 0 where
   pub call : CallId
+  pub clock : ℕ
   pub front : ℕ
   pub taken : overlap.OpenCall
   pub before : List EndedCall
@@ -48,6 +52,11 @@ pub record JournalState : Type 0 where
 -- before the first turn
 abbrev pub first_journal : JournalState
 first_journal = record { mount = first_mount; clock = 0; front = 0; opened = []; ended = [] }
+
+-- what all these calls saw of keys, used and wrote
+abbrev pub past_of : List EndedCall → Past
+past_of [] = no_past
+past_of (e ∷ ended) = joined e.past (past_of ended)
 
 -- the call of a lane that is under way, and the others
 abbrev pub open_of : List OpenCall → ℕ → Option OpenCall
@@ -71,7 +80,12 @@ mount_by start log mount o how.Ok items = mount_after o.taken.at mount o.taken.r
 mount_by start log mount o how.NoMemory items = mount
 
 abbrev pub ended_by : BucketState → List LogEvent → MountModel → OpenCall → How → List Item → EndedCall
-ended_by start log mount o how items = record { call = o.call; own = own_moments_of items; reply = reply_by start log mount o how items }
+ended_by start log mount o how items = record {
+  call = o.call;
+  own = own_moments_of items;
+  past = past_by start log o.clock items;
+  reply = reply_by start log mount o how items;
+}
 
 abbrev pub after_done : BucketState → List LogEvent → JournalState → ℕ → How → List Item → OpenCall → JournalState
 after_done start log state front how items o = record state {
@@ -83,7 +97,7 @@ after_done start log state front how items o = record state {
 
 -- a call that is taken with this, at this front
 abbrev pub taken_by : JournalState → CallId → ℕ → overlap.OpenCall → OpenCall
-taken_by state call front taken = record { call = call; front = front; taken = taken; before = state.ended }
+taken_by state call front taken = record { call = call; clock = state.clock; front = front; taken = taken; before = state.ended }
 
 abbrev pub with_taken : JournalState → OpenCall → JournalState
 with_taken state o = record state { front = o.front; opened = o ∷ state.opened }

@@ -6,7 +6,13 @@ use Rattle.bucket_api.specs.LogEvent.{LogEvent}
 use Rattle.bucket_api.specs.Moments.{position_of}
 use Rattle.bucket_api.specs.Operation.{Operation, stat, list}
 use Rattle.history_spec.specs.Account.{Item, looked}
-use Rattle.history_spec.specs.JournalState.{EndedCall, JournalState, OpenCall}
+use Rattle.history_spec.specs.JournalState.{EndedCall, JournalState, OpenCall, past_of}
+use Rattle.history_spec.specs.Pasts.{key_of, lifetime_of}
+use Rattle.mount_rules.specs.Dispatch.{rules_of}
+use Rattle.mount_rules.specs.Overlap as overlap
+use Rattle.record_spec.specs.Past.{IsLawful}
+use Rattle.record_spec.specs.RecordList.{Key}
+use Rattle.record_spec.specs.declared.records.Record.{Record}
 
 -- An operation that looks a name up: a stat, or the probe of an implicit directory, which asks for one name at most.
 abbrev pub IsLook : Operation → Type 0
@@ -38,6 +44,14 @@ abbrev pub TellsSettled : BucketState → List LogEvent → JournalState → Ope
 TellsSettled start log state o (looked moment kept) = (event : LogEvent) → event_at log moment ≡ Some event → IsSettled start log state o moment event.op
 TellsSettled start log state o item = Unit {0}
 
--- A record may serve a look. No mount keeps records yet, so none may.
-abbrev pub MayRecall : OpenCall → Operation → ℕ → Type 0
-MayRecall o op moment = ⊥
+-- the keys of which a call looks for records, by what it saw at its take
+abbrev pub keys_taken : overlap.OpenCall → List Key
+keys_taken taken = (rules_of taken.request).keys taken.view
+
+-- A record of this moment may serve a look of a call, of a key of which the call looks for records: by what calls that were
+-- done before its take saw, used and wrote, the record may be used after so many seconds.
+pub record MayRecall (o : OpenCall) (op : Operation) (moment : ℕ) : Type 0 where
+  pub asked : Contains (keys_taken o.taken) (key_of op)
+  pub r : Record
+  pub is : r.moment ≡ moment
+  pub lawful : IsLawful o.taken.at.config.implicit_dirs (past_of o.before) (key_of op) o.clock (lifetime_of o.taken.at.config (key_of op)) r

@@ -99,7 +99,7 @@ module _ (config : Config) (second lane : ℕ) (mount : MountModel) (before : Lo
 
     some_call : OpenCall
     unfolding some_at
-    some_call = record { call = record { lane = lane; index = 1 }; front = length before.log; taken = opened_at some_at mount request; before = [] }
+    some_call = record { call = record { lane = lane; index = 1 }; clock = 0; front = length before.log; taken = opened_at some_at mount request; before = [] }
 
     pub serves_now : Serves config mount request (answers_of told.items) base
     unfolding some_at some_call
