@@ -1,0 +1,5 @@
+-- What a mount keeps of what it learned, along an account.
+pub mod Records
+pub mod Files
+pub mod Thrift
+pub mod Laws
