@@ -1,9 +1,9 @@
 """Draws a timeline as an SVG picture: bars for calls, marks for operations, and the order of dones on the right."""
 from xml.sax.saxutils import escape
 
-from timeline_text import cut_to
+from timeline_text import folded
 
-ROW, LETTER, MARGIN, GAP = 24, 7.25, 78, 18
+ROW, LINE, LETTER, MARGIN, GAP = 24, 16, 7.25, 78, 18
 LEAST_LETTERS = 22
 STYLE = """
   text { font-family: 'DejaVu Sans Mono', Menlo, Consolas, monospace; font-size: 12px; fill: #222222 }
@@ -36,10 +36,13 @@ class Page:
         self.below, self.above = [], []
 
     def text(self, x, y, text, kind=""):
-        """Text at a place; what is cut off is told where the pointer rests."""
-        shown = cut_to(text, self.timeline.most)
-        whole = f"<title>{escape(text)}</title>" if shown != text else ""
-        self.above.append(f'<text class="{kind}" x="{x:g}" y="{y:g}">{whole}{escape(shown)}</text>')
+        """Text at a place; what is too long goes on below."""
+        for number, line in enumerate(folded(text, self.timeline.most)):
+            self.above.append(f'<text class="{kind}" x="{x:g}" y="{y + number * LINE:g}">{escape(line)}</text>')
+
+    def height(self, step):
+        """The height of a step's row."""
+        return ROW + LINE * (len(folded(step.text, self.timeline.most)) - 1)
 
     def line(self, x, y, end, kind):
         """A line from left to right, below all else."""
@@ -81,10 +84,10 @@ class Page:
             self.above.append(f'<circle class="mark" cx="{x + 8:g}" cy="{y + 12:g}" r="4"/>')
             self.text(x + 3 * LETTER, base, step.text)
         elif step.kind == "writer":
-            self.bar(step.column, y, y + ROW, "beside")
+            self.bar(step.column, y, y + self.height(step), "beside")
             self.text(x, base, step.text)
         else:
-            self.bar(step.column, tops.pop(step.column, y), y + ROW, "bad" if step.refused else "bar")
+            self.bar(step.column, tops.pop(step.column, y), y + self.height(step), "bad" if step.refused else "bar")
             self.text(x, base, step.text, "refused" if step.refused else "told" if step.kind == "done" else "")
             self.order(step, y + 12)
 
@@ -97,7 +100,7 @@ def picture(timeline):
     page.width = max(page.width, page.right + 100)
     for step in timeline.steps:
         page.step(step, y, tops)
-        y += ROW
+        y += page.height(step)
     size = f'width="{page.width:g}" height="{y + 10}" viewBox="0 0 {page.width:g} {y + 10}"'
     yield f'<svg xmlns="http://www.w3.org/2000/svg" {size}>'
     yield f"<style>{STYLE}</style>"
