@@ -1,6 +1,7 @@
 //! The program, run as a whole: its words, streams that fail or come in pieces, what it puts out and what it tells.
 mod directories;
 mod ends;
+mod examples;
 mod files;
 mod plays;
 mod streams;
