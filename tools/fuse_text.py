@@ -11,8 +11,7 @@ ESCAPES = {ord('"'): '\\"', ord("\\"): "\\\\", ord("\n"): "\\n", ord("\r"): "\\r
 
 def quoted(data, most=MOST_SHOWN):
     """Bytes as a text in quotes; of long ones the first, and how many there are."""
-    text = data[:most].decode("utf-8", "surrogateescape")
-    shown = "".join(shown_character(letter) for letter in text)
+    shown = data[:most].decode("utf-8", "surrogateescape").translate(SHOWN_CHARACTERS)
     return f'"{shown}"' if len(data) <= most else f'"{shown}".. {len(data)} bytes'
 
 
@@ -23,6 +22,17 @@ def shown_character(letter):
     if letter.isprintable():
         return letter
     return "".join(f"\\x{byte:02x}" for byte in letter.encode("utf-8", "surrogateescape"))
+
+
+class ShownCharacters(dict):
+    """How each character of a quoted text is shown, by its number; worked out when it is first met."""
+
+    def __missing__(self, number):
+        self[number] = shown_character(chr(number))
+        return self[number]
+
+
+SHOWN_CHARACTERS = ShownCharacters()
 
 
 def moment(seconds, nanoseconds):
