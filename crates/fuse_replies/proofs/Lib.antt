@@ -1,5 +1,6 @@
 pub mod TextLemmas
 pub mod ReplyLemmas
+pub mod FieldLemmas
 pub mod StripLemmas
 pub mod ReadLemmas
 pub mod DirentLemmas

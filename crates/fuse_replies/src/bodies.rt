@@ -1,14 +1,13 @@
 //! Bodies of replies that have one length: written, and read where the bytes are one.
-ghost use Rattle.std.specs.Prelude.{◌≡◌, ◌≤◌, ◌<◌, ◌^◌, ◌++◌, ◌∷◌, ◌↔◌, [], length, OnOk, IsTrue};
+ghost use Rattle.std.specs.Prelude.{◌≡◌, ◌≤◌, ◌<◌, ◌^◌, ◌+◌, ◌++◌, ◌∷◌, ◌↔◌, [], length, take, IsTrue};
 ghost use Rattle.std.specs.Int.{div_ceil};
 ghost use Rattle.fuse_replies.specs.Layouts.{attr_out_text, attr_text, entry_text, open_text, statfs_text, written_text};
 ghost use Rattle.fuse_replies.specs.Reading.{attr_at, created_text, node_text, IsCreated, Reads};
 ghost use Rattle.fuse_replies.specs.Replies.{IsAttr, IsEntry};
 
-use crate::fields::{are_fields, put_u32s, put_u64s};
+use crate::fields::{are_fields, write_u32s, write_u64s};
 use crate::reply::{AttrOut, EntryOut};
 use fuse_head::{u32_at, u64_at};
-use std::alloc::AllocError;
 
 // The fields of eight bytes of a `fuse_attr`.
 fn attr_wide(attr: &AttrOut) -> [u64; 6]
@@ -28,13 +27,14 @@ fn attr_narrow(attr: &AttrOut) -> [u32; 10]
     [nanos, nanos, nanos, attr.mode, attr.nlink, 0, 0, 0, 4096, 0]
 }
 
-/// Appends a `fuse_attr`.
+/// Writes a `fuse_attr` into the 88 bytes from `place` on; what stands before them stays.
 #[tactic(auto, unfolding(crate::specs::Layouts::attr_text))]
-pub(crate) fn put_attr(out: &mut Vec<u8>, attr: &AttrOut) -> Result<(), AllocError>
-    ensures ok { OnOk result (out.new.items ≡ out.old.items ++ attr_text attr.now) }
+fn write_attr(out: &mut [u8], place: usize, attr: &AttrOut)
+    requires { place + 88 ≤ length out.old }
+    ensures { take (place + 88) out.new ≡ take place out.old ++ attr_text attr.now }
 {
-    put_u64s(out, &attr_wide(attr))?;
-    put_u32s(out, &attr_narrow(attr))
+    write_u64s(out, place, &attr_wide(attr));
+    write_u32s(out, place + 48, &attr_narrow(attr));
 }
 
 // The fields of a `fuse_attr` that aren't told by others.
@@ -75,14 +75,15 @@ pub(crate) fn attr_of(body: &[u8]) -> Option<AttrOut>
     Some(attr)
 }
 
-/// Appends a `fuse_entry_out`.
-#[tactic(auto, unfolding(crate::specs::Layouts::entry_text))]
-pub(crate) fn put_entry(out: &mut Vec<u8>, entry: &EntryOut) -> Result<(), AllocError>
-    ensures ok { OnOk result (out.new.items ≡ out.old.items ++ entry_text entry.now) }
+/// The bytes of a `fuse_entry_out`.
+pub(crate) fn entry_bytes(entry: &EntryOut) -> [u8; 128]
+    ensures { result ≡ entry_text entry.now }
 {
-    put_u64s(out, &[entry.node, 0, 0, 0])?;
-    put_u32s(out, &[0, 0])?;
-    put_attr(out, &entry.attr)
+    let mut bytes = [0; 128];
+    write_u64s(&mut bytes, 0, &[entry.node, 0, 0, 0]);
+    write_u32s(&mut bytes, 32, &[0, 0]);
+    write_attr(&mut bytes, 40, &entry.attr);
+    bytes
 }
 
 // The node with which a `fuse_entry_out` begins, where the bytes are its first 40.
@@ -112,14 +113,15 @@ pub(crate) fn entry_of(body: &[u8]) -> Option<EntryOut>
     Some(EntryOut { node, attr })
 }
 
-/// Appends a `fuse_attr_out`.
-#[tactic(auto, unfolding(crate::specs::Layouts::attr_out_text))]
-pub(crate) fn put_attr_out(out: &mut Vec<u8>, attr: &AttrOut) -> Result<(), AllocError>
-    ensures ok { OnOk result (out.new.items ≡ out.old.items ++ attr_out_text attr.now) }
+/// The bytes of a `fuse_attr_out`.
+pub(crate) fn attr_out_bytes(attr: &AttrOut) -> [u8; 104]
+    ensures { result ≡ attr_out_text attr.now }
 {
-    put_u64s(out, &[0])?;
-    put_u32s(out, &[0, 0])?;
-    put_attr(out, attr)
+    let mut bytes = [0; 104];
+    write_u64s(&mut bytes, 0, &[0]);
+    write_u32s(&mut bytes, 8, &[0, 0]);
+    write_attr(&mut bytes, 16, attr);
+    bytes
 }
 
 /// The attributes whose `fuse_attr_out` the bytes are.
@@ -136,13 +138,14 @@ pub(crate) fn attr_out_of(body: &[u8]) -> Option<AttrOut>
     attr_of(back)
 }
 
-/// Appends a `fuse_open_out`.
-#[tactic(auto, unfolding(crate::specs::Layouts::open_text))]
-pub(crate) fn put_open(out: &mut Vec<u8>, fh: u64) -> Result<(), AllocError>
-    ensures ok { OnOk result (out.new.items ≡ out.old.items ++ open_text fh) }
+/// The bytes of a `fuse_open_out`.
+pub(crate) fn open_bytes(fh: u64) -> [u8; 16]
+    ensures { result ≡ open_text fh }
 {
-    put_u64s(out, &[fh])?;
-    put_u32s(out, &[0, 0])
+    let mut bytes = [0; 16];
+    write_u64s(&mut bytes, 0, &[fh]);
+    write_u32s(&mut bytes, 8, &[0, 0]);
+    bytes
 }
 
 /// The handle whose `fuse_open_out` the bytes are.
@@ -172,12 +175,13 @@ pub(crate) fn created_of(body: &[u8]) -> Option<(EntryOut, u64)>
     Some((entry, fh))
 }
 
-/// Appends a `fuse_write_out`.
-#[tactic(auto, unfolding(crate::specs::Layouts::written_text))]
-pub(crate) fn put_written(out: &mut Vec<u8>, size: u32) -> Result<(), AllocError>
-    ensures ok { OnOk result (out.new.items ≡ out.old.items ++ written_text size) }
+/// The bytes of a `fuse_write_out`.
+pub(crate) fn written_bytes(size: u32) -> [u8; 8]
+    ensures { result ≡ written_text size }
 {
-    put_u32s(out, &[size, 0])
+    let mut bytes = [0; 8];
+    write_u32s(&mut bytes, 0, &[size, 0]);
+    bytes
 }
 
 /// The size whose `fuse_write_out` the bytes are.
@@ -200,13 +204,14 @@ const STATFS_COUNTS: [u64; 5] = [1 << 30, 1 << 30, 1 << 30, 1 << 30, 1 << 30];
 // The fields of four bytes of a `fuse_kstatfs`: bsize, namelen and frsize, and those that are 0.
 const STATFS_SIZES: [u32; 10] = [65_536, 255, 65_536, 0, 0, 0, 0, 0, 0, 0];
 
-/// Appends a `fuse_kstatfs`.
-#[tactic(auto, unfolding(crate::specs::Layouts::statfs_text))]
-pub(crate) fn put_statfs(out: &mut Vec<u8>) -> Result<(), AllocError>
-    ensures ok { OnOk result (out.new.items ≡ out.old.items ++ statfs_text) }
+/// The bytes of a `fuse_kstatfs`.
+pub(crate) fn statfs_bytes() -> [u8; 80]
+    ensures { result ≡ statfs_text }
 {
-    put_u64s(out, &STATFS_COUNTS)?;
-    put_u32s(out, &STATFS_SIZES)
+    let mut bytes = [0; 80];
+    write_u64s(&mut bytes, 0, &STATFS_COUNTS);
+    write_u32s(&mut bytes, 40, &STATFS_SIZES);
+    bytes
 }
 
 /// Whether the bytes are the `fuse_kstatfs`.

@@ -8,7 +8,7 @@ ghost use Rattle.fuse_replies.specs.Reading.{front_text, ReadsOrFaults, IsFront,
 ghost use Rattle.fuse_replies.specs.Replies.{IsDirent};
 
 use crate::fault::ReplyFault;
-use crate::fields::{are_fields, put_u32s, put_u64s};
+use crate::fields::{are_fields, write_u32s, write_u64s};
 use crate::reply::Dirent;
 use fuse_head::{u32_at, u64_at};
 use io_ports::Text;
@@ -71,6 +71,16 @@ fn put_zeros(out: &mut Vec<u8>, count: u32) -> Result<(), AllocError>
     out.extend_from_slice(&zeros[..count as usize])
 }
 
+/// The first 24 bytes of a `fuse_dirent`.
+fn front_bytes(front: &DirentFront) -> [u8; 24]
+    ensures { result ≡ front_text front.now }
+{
+    let mut bytes = [0; 24];
+    write_u64s(&mut bytes, 0, &[UNKNOWN_INO, front.off]);
+    write_u32s(&mut bytes, 16, &[front.namelen, front.kind]);
+    bytes
+}
+
 /// Appends one `fuse_dirent`.
 #[tactic(auto, using(crate::proofs::TextLemmas::dirent_lengths), unfolding(crate::specs::Layouts::dirent_text))]
 pub(crate) fn put_dirent(out: &mut Vec<u8>, dirent: &Dirent) -> Result<(), AllocError>
@@ -79,8 +89,12 @@ pub(crate) fn put_dirent(out: &mut Vec<u8>, dirent: &Dirent) -> Result<(), Alloc
 {
     let name = dirent.name.as_str().as_bytes();
     let len = name.len() as u32;
-    put_u64s(out, &[UNKNOWN_INO, dirent.off])?;
-    put_u32s(out, &[len, dirent.kind])?;
+    let front = DirentFront {
+        off: dirent.off,
+        namelen: len,
+        kind: dirent.kind,
+    };
+    out.extend_from_slice(&front_bytes(&front))?;
     out.extend_from_slice(name)?;
     put_zeros(out, padding(len))
 }

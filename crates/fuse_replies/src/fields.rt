@@ -1,42 +1,44 @@
-//! Runs of little-endian fields of one width: appended, and taken off the front of bytes.
-ghost use Rattle.std.specs.Prelude.{◌≡◌, ◌++◌, ◌↔◌, OnOk, IsTrue};
+//! Runs of little-endian fields of one width: written at a place, and taken off the front of bytes.
+ghost use Rattle.std.specs.Prelude.{◌≡◌, ◌≤◌, ◌+◌, ◌*◌, ◌++◌, ◌↔◌, length, take, IsTrue};
 ghost use Rattle.fuse_replies.specs.Layouts.{u16s, u32s, u64s};
 ghost use Rattle.fuse_replies.specs.Reading.{Strips};
 
-use fuse_head::{append_u16, append_u32, append_u64};
-use std::alloc::AllocError;
+use fuse_head::{put_u16, put_u32, put_u64};
 
-/// Appends fields of two bytes.
-#[tactic(auto, unfolding(crate::specs::Layouts::u16s))]
-pub(crate) fn put_u16s(out: &mut Vec<u8>, fields: &[u16]) -> Result<(), AllocError>
-    ensures ok { OnOk result (out.new.items ≡ out.old.items ++ u16s fields.now) }
+/// Writes fields of two bytes into `out` from `place` on; what stands before them stays.
+pub(crate) fn write_u16s(out: &mut [u8], place: usize, fields: &[u16])
+    requires { place + 2 * length fields.now ≤ length out.old }
+    ensures { take (place + 2 * length fields.now) out.new ≡ take place out.old ++ u16s fields.now }
 {
+    let mut place = place;
     for field in fields {
-        append_u16(out, *field)?;
+        put_u16(out, place, *field);
+        place += 2;
     }
-    Ok(())
 }
 
-/// Appends fields of four bytes.
-#[tactic(auto, unfolding(crate::specs::Layouts::u32s))]
-pub(crate) fn put_u32s(out: &mut Vec<u8>, fields: &[u32]) -> Result<(), AllocError>
-    ensures ok { OnOk result (out.new.items ≡ out.old.items ++ u32s fields.now) }
+/// Writes fields of four bytes into `out` from `place` on; what stands before them stays.
+pub(crate) fn write_u32s(out: &mut [u8], place: usize, fields: &[u32])
+    requires { place + 4 * length fields.now ≤ length out.old }
+    ensures { take (place + 4 * length fields.now) out.new ≡ take place out.old ++ u32s fields.now }
 {
+    let mut place = place;
     for field in fields {
-        append_u32(out, *field)?;
+        put_u32(out, place, *field);
+        place += 4;
     }
-    Ok(())
 }
 
-/// Appends fields of eight bytes.
-#[tactic(auto, unfolding(crate::specs::Layouts::u64s))]
-pub(crate) fn put_u64s(out: &mut Vec<u8>, fields: &[u64]) -> Result<(), AllocError>
-    ensures ok { OnOk result (out.new.items ≡ out.old.items ++ u64s fields.now) }
+/// Writes fields of eight bytes into `out` from `place` on; what stands before them stays.
+pub(crate) fn write_u64s(out: &mut [u8], place: usize, fields: &[u64])
+    requires { place + 8 * length fields.now ≤ length out.old }
+    ensures { take (place + 8 * length fields.now) out.new ≡ take place out.old ++ u64s fields.now }
 {
+    let mut place = place;
     for field in fields {
-        append_u64(out, *field)?;
+        put_u64(out, place, *field);
+        place += 8;
     }
-    Ok(())
 }
 
 /// What follows these fields of two bytes, where `bytes` begin with them.

@@ -1,22 +1,22 @@
 //! The answer to INIT: written and read.
-ghost use Rattle.std.specs.Prelude.{◌≡◌, ◌<◌, ◌≤◌, ◌^◌, ◌++◌, ◌↔◌, length, IsTrue, OnOk};
+ghost use Rattle.std.specs.Prelude.{◌≡◌, ◌<◌, ◌≤◌, ◌^◌, ◌++◌, ◌↔◌, length, IsTrue};
 ghost use Rattle.fuse_replies.specs.Layouts.{init_text, waits_text};
 ghost use Rattle.fuse_replies.specs.Reading.{numbers_text, AreNumbers, Reads, Strips};
 
-use crate::fields::{are_fields, put_u16s, put_u32s, strip_u16s, strip_u32s};
+use crate::fields::{are_fields, strip_u16s, strip_u32s, write_u16s, write_u32s};
 use fuse_head::u32_at;
-use std::alloc::AllocError;
 
-/// Appends a `fuse_init_out`.
-#[tactic(auto, unfolding(crate::specs::Layouts::init_text))]
-pub(crate) fn put_init(out: &mut Vec<u8>, readahead: u32, flags: u32) -> Result<(), AllocError>
-    ensures ok { OnOk result (out.new.items ≡ out.old.items ++ init_text readahead flags) }
+/// The bytes of a `fuse_init_out`.
+pub(crate) fn init_bytes(readahead: u32, flags: u32) -> [u8; 64]
+    ensures { result ≡ init_text readahead flags }
 {
-    put_u32s(out, &[7, 31, readahead, flags])?;
-    put_u16s(out, &[12, 9])?;
-    put_u32s(out, &[131_072, 1])?;
-    put_u16s(out, &[0, 0])?;
-    put_u32s(out, &[0; 8])
+    let mut bytes = [0; 64];
+    write_u32s(&mut bytes, 0, &[7, 31, readahead, flags]);
+    write_u16s(&mut bytes, 16, &[12, 9]);
+    write_u32s(&mut bytes, 20, &[131_072, 1]);
+    write_u16s(&mut bytes, 28, &[0, 0]);
+    write_u32s(&mut bytes, 32, &[0; 8]);
+    bytes
 }
 
 /// What follows a `fuse_init_out` with these numbers, where the bytes begin with it.
@@ -46,12 +46,13 @@ pub(crate) fn init_of(body: &[u8]) -> Option<(u32, u32)>
 /// The fields of the `fuse_init_out` of a kernel that is to send INIT again.
 const WAITS: [u32; 16] = [7, 31, 0, 0, 0, 0, 0, 0, 0, 0, 0, 0, 0, 0, 0, 0];
 
-/// Appends the `fuse_init_out` of a kernel that is to send INIT again.
-#[tactic(auto, unfolding(crate::specs::Layouts::waits_text))]
-pub(crate) fn put_waits(out: &mut Vec<u8>) -> Result<(), AllocError>
-    ensures ok { OnOk result (out.new.items ≡ out.old.items ++ waits_text) }
+/// The bytes of the `fuse_init_out` of a kernel that is to send INIT again.
+pub(crate) fn waits_bytes() -> [u8; 64]
+    ensures { result ≡ waits_text }
 {
-    put_u32s(out, &WAITS)
+    let mut bytes = [0; 64];
+    write_u32s(&mut bytes, 0, &WAITS);
+    bytes
 }
 
 /// Whether the bytes are the `fuse_init_out` of a kernel that is to send INIT again.

@@ -3,9 +3,9 @@ ghost use Rattle.std.specs.Prelude.{◌≡◌, ◌+◌, ◌++◌, length, IfOk, 
 ghost use Rattle.fuse_head.specs.Head.{out_head};
 ghost use Rattle.fuse_replies.specs.Replies.{body_of, errno_of, frame_of, without_spare, IsSendable};
 
-use crate::bodies::{put_attr_out, put_entry, put_open, put_statfs, put_written};
+use crate::bodies::{attr_out_bytes, entry_bytes, open_bytes, statfs_bytes, written_bytes};
 use crate::dirents::{dirents_len, put_dirents};
-use crate::init::{put_init, put_waits};
+use crate::init::{init_bytes, waits_bytes};
 use crate::reply::Reply;
 use fuse_head::write_out_head;
 use io_ports::{Bytes, NoMemory};
@@ -83,22 +83,22 @@ fn put_body(out: &mut Vec<u8>, reply: &Reply) -> Result<(), AllocError>
 {
     match reply {
         Reply::Error(_) | Reply::Empty | Reply::Silent => Ok(()),
-        Reply::Entry(entry) => put_entry(out, entry),
-        Reply::Attr(attr) => put_attr_out(out, attr),
+        Reply::Entry(entry) => out.extend_from_slice(&entry_bytes(entry)),
+        Reply::Attr(attr) => out.extend_from_slice(&attr_out_bytes(attr)),
         Reply::Created { entry, fh } => {
-            put_entry(out, entry)?;
-            put_open(out, *fh)
+            out.extend_from_slice(&entry_bytes(entry))?;
+            out.extend_from_slice(&open_bytes(*fh))
         }
-        Reply::Opened(fh) => put_open(out, *fh),
+        Reply::Opened(fh) => out.extend_from_slice(&open_bytes(*fh)),
         Reply::Content(bytes) | Reply::Target(bytes) => out.extend_from_slice(bytes.as_slice()),
-        Reply::Written(size) => put_written(out, *size),
-        Reply::Stat => put_statfs(out),
+        Reply::Written(size) => out.extend_from_slice(&written_bytes(*size)),
+        Reply::Stat => out.extend_from_slice(&statfs_bytes()),
         Reply::Dirents(dirents) => put_dirents(out, dirents.as_slice()),
-        Reply::InitDone { waits: true, .. } => put_waits(out),
+        Reply::InitDone { waits: true, .. } => out.extend_from_slice(&waits_bytes()),
         Reply::InitDone {
             readahead,
             flags,
             ..
-        } => put_init(out, *readahead, *flags),
+        } => out.extend_from_slice(&init_bytes(*readahead, *flags)),
     }
 }
