@@ -11,7 +11,7 @@ pub fn u16_at(bytes: &[u8], place: usize) -> u16
     requires { place + 2 ≤ length bytes.now }
     ensures { result ≡ little.u16_at bytes.now place }
 {
-    LittleEndian::read_u16(&bytes[place..])
+    LittleEndian::read_u16(&bytes[place..place + 2])
 }
 
 /// The little-endian number in the four bytes from `place` on.
@@ -20,7 +20,7 @@ pub fn u32_at(bytes: &[u8], place: usize) -> u32
     requires { place + 4 ≤ length bytes.now }
     ensures { result ≡ little.u32_at bytes.now place }
 {
-    LittleEndian::read_u32(&bytes[place..])
+    LittleEndian::read_u32(&bytes[place..place + 4])
 }
 
 /// The little-endian number in the eight bytes from `place` on.
@@ -29,7 +29,7 @@ pub fn u64_at(bytes: &[u8], place: usize) -> u64
     requires { place + 8 ≤ length bytes.now }
     ensures { result ≡ little.u64_at bytes.now place }
 {
-    LittleEndian::read_u64(&bytes[place..])
+    LittleEndian::read_u64(&bytes[place..place + 8])
 }
 
 /// Writes the little-endian number into the two bytes from `place` on; what stands before and after them stays.
