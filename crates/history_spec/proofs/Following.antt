@@ -7,11 +7,12 @@ use Rattle.bucket_api.specs.LogEvent.{LogEvent}
 use Rattle.history_spec.specs.Account as account
 use Rattle.history_spec.specs.Account.{Account, Item, Turn, front_of, moment_of, own_moments_of}
 use Rattle.history_spec.specs.Fits.{EndsBy, Follows, HasWalked, IsNext, MayBeDone, MayFollow, plan_of}
-use Rattle.history_spec.specs.JournalState.{JournalState, OpenCall, after_done, after_turn, after_turns, mount_by, others_of, reply_by, taken_by, with_taken}
+use Rattle.history_spec.specs.JournalState.{EndedCall, JournalState, OpenCall, after_done, after_turn, after_turns, mount_by, others_of, reply_by, taken_by, with_taken}
+use Rattle.history_spec.specs.Looks.{AreUnseen}
 use Rattle.history_spec.specs.Pasts.{past_by}
-use Rattle.history_spec.proofs.Agreeing.{at_same, own_same, past_same, seen_same}
+use Rattle.history_spec.proofs.Agreeing.{at_same, own_same, past_same, seen_same, taken_same}
 use Rattle.history_spec.proofs.OwnMoments.{all_weaker}
-use Rattle.history_spec.proofs.Walking.{all_settled_same, IsWalk, IsWalk-walked, Walked-walks, walked_same}
+use Rattle.history_spec.proofs.Walking.{IsWalk, IsWalk-walked, Walked-walks, walked_same}
 use Rattle.mount_model.specs.Observing.{Observed}
 use Rattle.mount_model.specs.declared.config.Config.{Config}
 use Rattle.mount_model.specs.declared.journal.How.{How}
@@ -85,7 +86,8 @@ module _ (config : Config) (start : BucketState) (one other : List LogEvent) (up
       → MayBeDone start other state o front h items
   done_same state o front h items within may = record {
     walk = walk_same start one other upto same (plan_of state o) o front items within may.walk;
-    settled = all_settled_same start one other upto same state o items (walk_within start one other upto same (plan_of state o) o front items within may.walk) may.settled;
+    settled = λ since earlier. subst (λ events. AllByRecursion (λ (e : EndedCall). AreUnseen start events (own_moments_of items) e.own) since)
+        (taken_same start one other upto same front within) (may.settled since earlier);
     ends = subst (EndsBy h (plan_of state o)) (seen_same start one other upto same items (walk_within start one other upto same (plan_of state o) o front items within may.walk)) may.ends;
   }
 

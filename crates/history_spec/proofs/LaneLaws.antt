@@ -21,7 +21,7 @@ use Rattle.mount_model.specs.declared.gate.CallId.{CallId}
 use Rattle.mount_model.specs.declared.journal.How.{How}
 
 -- ---- in turn
-abbrev InTurn : JournalState → Type 0
+abbrev pub InTurn : JournalState → Type 0
 InTurn state = AllByRecursion (IsInTurn state) state.opened
 
 module _ (config : Config) (start : BucketState) (log : List LogEvent) where
@@ -52,7 +52,7 @@ module _ (config : Config) (start : BucketState) (log : List LogEvent) where
       (open_of-others state.opened p.call.lane o.call.lane differ) (ended_other _ state.ended p.call.lane (λ same. differ (sym same))) refl onward its)
       state.opened is
 
-  in_turn_after : (state : JournalState) (turn : Turn) → MayFollow start log state turn → InTurn state → InTurn (after_turn config start log state turn)
+  pub in_turn_after : (state : JournalState) (turn : Turn) → MayFollow start log state turn → InTurn state → InTurn (after_turn config start log state turn)
   in_turn_after state (account.take call front request) may is = (
     record { alone = open_of-first _ state.opened call.lane refl; next = may.next.1; front = omega arith; since = []; earlier = refl },
     all_weaker (IsInTurn state) (IsInTurn (after_turn config start log state (account.take call front request)))

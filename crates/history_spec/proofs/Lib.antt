@@ -9,6 +9,7 @@ pub mod LaneLaws
 pub mod OneAccount
 pub mod OwnMoments
 pub mod PlanSteps
+pub mod SettledAtLast
 pub mod Settling
 pub mod Walking
 pub mod WalkLaws

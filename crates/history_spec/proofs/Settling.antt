@@ -15,7 +15,7 @@ use Rattle.history_spec.proofs.Lanes.{lane_of_open, same_lane}
 use Rattle.history_spec.proofs.OwnMoments.{own_between}
 
 -- ---- elements of lists
-contains_later : {X : Type 0} (x : X) (xs : List X) (y : X) → Contains xs y → Contains (x ∷ xs) y
+pub contains_later : {X : Type 0} (x : X) (xs : List X) (y : X) → Contains xs y → Contains (x ∷ xs) y
 contains_later x xs y there = (suc there.0, omega arith, there.2)
 
 pub contains_either : {X : Type 0} (xs ys : List X) (z : X) → Contains (xs ++ ys) z → Contains xs z ⊎ Contains ys z
@@ -27,7 +27,7 @@ contains_either (x ∷ xs) ys z (suc k, within, is) = by (contains_either xs ys 
     by (inl left) = inl (contains_later x xs z left)
     by (inr right) = inr right
 
-contains_all : {X : Type 0} (P : X → Type 0) (xs : List X) (y : X) → Contains xs y → AllByRecursion P xs → P y
+pub contains_all : {X : Type 0} (P : X → Type 0) (xs : List X) (y : X) → Contains xs y → AllByRecursion P xs → P y
 contains_all P [] y (k, within, is) all = absurd (omega arith)
 contains_all P (x ∷ xs) y (zero, within, is) all = subst P is all.0
 contains_all P (x ∷ xs) y (suc k, within, is) all = contains_all P xs y (k, omega arith, is) all.1

@@ -28,7 +28,7 @@ event_last [] event = refl
 event_last (e ∷ log) event = event_last log event
 
 -- what one more event shows is told at its moment
-observed_pushed : (start : BucketState) (log : List LogEvent) (event : LogEvent)
+pub observed_pushed : (start : BucketState) (log : List LogEvent) (event : LogEvent)
     → observed_at start (log ++ event ∷ []) (moment_at (length log)) ≡ Some (shown_by start log event)
 observed_pushed start log event =
     ap (option_and_then (shown (moment_at (length log)) (answer_at start (log ++ event ∷ []) (moment_at (length log))))) there
@@ -56,7 +56,7 @@ module _ (start : BucketState) (log : List LogEvent) (o : OpenCall) where
         (subst (λ (first : Option Observed). Allows (plan (answers_of (cons_option first (seen_by start log items)))) seen.op) walked.1 allowed) may,
   )
 
-own_is_moment : (item : Item) (moment : ℕ) → own_of item ≡ Some moment → moment_of item ≡ moment
+pub own_is_moment : (item : Item) (moment : ℕ) → own_of item ≡ Some moment → moment_of item ≡ moment
 own_is_moment (looked m kept) moment is = cc
 own_is_moment (recalled m) moment is = absurd (cc)
 own_is_moment (made m) moment is = cc

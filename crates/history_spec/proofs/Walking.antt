@@ -1,17 +1,14 @@
 -- The walk of a call, item by item.
-use Rattle.std.proofs.Common.{◌≡◌, ℕ, suc, ◌-◌, ◌≤◌, List, [], ◌∷◌, take, length, Some, None, refl, sym, ap, subst, ◌∙◌, arith}
+use Rattle.std.proofs.Common.{◌≡◌, ℕ, suc, ◌≤◌, List, [], ◌∷◌, take, length, Some, None, refl, sym, ap, subst, ◌∙◌, arith}
 use Rattle.std.specs.Prelude.{Option}
 use Rattle.std.specs.List.{AllByRecursion, cons_option}
-use Rattle.bucket_api.specs.BucketState.{BucketState, object_at}
-use Rattle.bucket_api.specs.Log.{state_at}
+use Rattle.bucket_api.specs.BucketState.{BucketState}
 use Rattle.bucket_api.specs.LogEvent.{LogEvent}
-use Rattle.bucket_api.specs.Operation.{Operation, stat}
-use Rattle.history_spec.specs.Account.{Item, looked, made, moment_of, recalled}
+use Rattle.history_spec.specs.Account.{Item, moment_of}
 use Rattle.history_spec.specs.Fits.{MayTell, Supplies, items_left}
-use Rattle.history_spec.specs.JournalState.{JournalState, OpenCall}
-use Rattle.history_spec.specs.Looks.{Changes, IsSettled, TellsSettled}
+use Rattle.history_spec.specs.JournalState.{OpenCall}
 use Rattle.history_spec.specs.Observing.{observed_at, seen_by}
-use Rattle.history_spec.proofs.Agreeing.{event_same, observed_same, state_same}
+use Rattle.history_spec.proofs.Agreeing.{observed_same}
 use Rattle.mount_model.specs.Observing.{Observed}
 use Rattle.mount_rules.specs.Plans.{Allows, Plan, Walks, plan_after}
 
@@ -70,28 +67,3 @@ module _ (start : BucketState) (one other : List LogEvent) (upto : ℕ) (same : 
     walked.3,
     walked_same o (plan_after plan walked.0.answer) items within.1 walked.4,
   )
-
-  changes_same : (moment : ℕ) (name : List ℕ) → moment ≤ upto → Changes start other moment name → Changes start one moment name
-  changes_same moment name within changed = λ is. changed (now ∙ (is ∙ before))
-    where
-      now : object_at (state_at start other moment) name ≡ object_at (state_at start one moment) name
-      now = sym (ap (λ b. object_at b name) (state_same start one other upto same moment within))
-
-      before : object_at (state_at start one (moment - 1)) name ≡ object_at (state_at start other (moment - 1)) name
-      before = ap (λ b. object_at b name) (state_same start one other upto same (moment - 1) (omega arith))
-
-  settled_same : (state : JournalState) (o : OpenCall) (moment : ℕ) (op : Operation) → moment ≤ upto → IsSettled start one state o moment op → IsSettled start other state o moment op
-  settled_same state o moment (stat name) within settled = λ m event earlier there its changed.
-      settled m event earlier (event_same start one other upto same m (omega arith) ∙ there) its (changes_same m name (omega arith) changed)
-  settled_same state o moment op within settled = tt
-
-  tells_same : (state : JournalState) (o : OpenCall) (item : Item) → moment_of item ≤ upto → TellsSettled start one state o item → TellsSettled start other state o item
-  tells_same state o (looked moment kept) within settled = λ event there.
-      settled_same state o moment event.op within (settled event (event_same start one other upto same moment within ∙ there))
-  tells_same state o (recalled moment) within settled = tt
-  tells_same state o (made moment) within settled = tt
-
-  pub all_settled_same : (state : JournalState) (o : OpenCall) (items : List Item) → AllByRecursion (λ item. moment_of item ≤ upto) items
-      → AllByRecursion (TellsSettled start one state o) items → AllByRecursion (TellsSettled start other state o) items
-  all_settled_same state o [] within settled = tt
-  all_settled_same state o (item ∷ items) within settled = (tells_same state o item within.0 settled.0, all_settled_same state o items within.1 settled.1)

@@ -1,6 +1,6 @@
 -- How the log of a bucket explains the journal of a mount: each call that is done walked along its plan, by what its items
 -- tell, and its own items are all that its lane made meanwhile.
-use Rattle.std.specs.Prelude.{◌≡◌, ◌≢◌, ℕ, ◌+◌, ◌≤◌, ◌==◌, List, [], ◌∷◌, filter, length, Some, None}
+use Rattle.std.specs.Prelude.{◌≡◌, ◌≢◌, ℕ, ◌+◌, ◌≤◌, ◌==◌, List, [], ◌∷◌, ◌++◌, filter, length, take, Some, None}
 use Rattle.std.specs.List.{AllByRecursion}
 use Rattle.bucket_api.specs.BucketState.{BucketState}
 use Rattle.bucket_api.specs.LogEvent.{LogEvent}
@@ -8,7 +8,7 @@ use Rattle.bucket_api.specs.Operation.{Operation}
 use Rattle.history_spec.specs.Account as account
 use Rattle.history_spec.specs.Account.{Account, Item, Turn, front_of, journal_of, looked, recalled, made, moment_of, own_moments_of}
 use Rattle.history_spec.specs.JournalState.{EndedCall, JournalState, OpenCall, after_turn, first_journal, open_of, reached}
-use Rattle.history_spec.specs.Looks.{IsLook, MayRecall, TellsSettled}
+use Rattle.history_spec.specs.Looks.{AreUnseen, IsLook, MayRecall}
 use Rattle.history_spec.specs.Observing.{observed_at, own_moments, seen_by}
 use Rattle.mount_model.specs.Journal.{Entry}
 use Rattle.mount_model.specs.Observing.{Observed}
@@ -54,11 +54,12 @@ EndsBy how.NoMemory plan seen = (plan [] ≢ done) × AllByRecursion (λ (o : Ob
 abbrev pub plan_of : JournalState → OpenCall → Plan
 plan_of state o = plan o.taken.at state.mount o.taken.request
 
--- A call under way may be done with these items: it has walked with them along its plan; what it saw by stats of its own is
--- settled; and it may end there.
+-- A call under way may be done with these items: it has walked with them along its plan, and it may end there. Of each call
+-- that was done since its take, it has seen nothing by a stat, nor that call of it: whatever is seen of the mount's changes is
+-- a call's own, or of one that was done before its take.
 pub record MayBeDone (start : BucketState) (log : List LogEvent) (state : JournalState) (o : OpenCall) (front : ℕ) (how : How) (items : List Item) : Type 0 where
   pub walk : HasWalked start log (plan_of state o) o front items
-  pub settled : AllByRecursion (TellsSettled start log state o) items
+  pub settled : (since : List EndedCall) → state.ended ≡ since ++ o.before → AllByRecursion (λ (e : EndedCall). AreUnseen start (take front log) (own_moments_of items) e.own) since
   pub ends : EndsBy how (plan_of state o) (seen_by start log items)
 
 -- ---- turns

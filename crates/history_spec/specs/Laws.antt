@@ -7,7 +7,7 @@ use Rattle.bucket_api.specs.LogEvent.{LogEvent}
 use Rattle.bucket_api.specs.Moments.{moment_at}
 use Rattle.bucket_api.specs.Operation.{stat}
 use Rattle.history_spec.specs.Account as account
-use Rattle.history_spec.specs.Account.{Account, Item, Turn, front_of, journal_of, last_front, own_of}
+use Rattle.history_spec.specs.Account.{Account, Item, Turn, front_of, journal_of, last_front, own_moments_of, own_of}
 use Rattle.history_spec.specs.Claims.{StandApart, plan_taken, shared_of}
 use Rattle.history_spec.specs.Fits.{Fits, Follows, HasWalked, IsAccount, MayBeDone, MayFollow, MayTell, ended_in}
 use Rattle.history_spec.specs.JournalState.{EndedCall, JournalState, OpenCall, after_done, after_turn, after_turns, at_front, first_journal, open_of, reached, taken_by, with_taken}
@@ -128,6 +128,20 @@ StatIsSettled = (start : BucketState) (log : List LogEvent) (state : JournalStat
     → ((lane : ℕ) → Contains (lanes_of state) lane → IsCovered log state lane)
     → ((m : ℕ) (event : LogEvent) → m < moment → event_at log m ≡ Some event → Changes start log m name → IsBeside since state o m event → ⊥)
     → IsSettled start log state o moment (stat name)
+
+-- Once no call is under way, and all that the mount's lanes made is covered by their calls, what each call saw by a stat of its
+-- own was settled: whatever the mount's calls had changed under that name by then is its own change, or one of a call that was
+-- done before its take.
+abbrev pub SettledAtLast : Type 0
+SettledAtLast = (config : Config) (start : BucketState) (log : List LogEvent) (turns more : Account) (o : OpenCall) (front : ℕ) (h : How) (items : List Item) (fill : Fill)
+    (moment : ℕ) (event : LogEvent) (name : List ℕ)
+    → Follows config start log first_journal (turns ++ done_of o front h items fill ∷ more)
+    → (reached config start log (turns ++ done_of o front h items fill ∷ more)).opened ≡ []
+    → ((lane : ℕ) → Contains (lanes_of (reached config start log (turns ++ done_of o front h items fill ∷ more))) lane
+    → IsCovered log (reached config start log (turns ++ done_of o front h items fill ∷ more)) lane)
+    → open_of (reached config start log turns).opened o.call.lane ≡ Some o
+    → Contains (own_moments_of items) moment → event_at log moment ≡ Some event → event.op ≡ stat name
+    → IsSettled start log (reached config start log (turns ++ done_of o front h items fill ∷ more)) o moment (stat name)
 
 -- ---- the walk of a call under way
 -- what one more event shows, at its moment

@@ -1,11 +1,11 @@
 -- Looks at names: the operations by which a call learns what stands under a name, and when what it learns may be used.
-use Rattle.std.specs.Prelude.{◌≡◌, ◌≢◌, ℕ, ◌<◌, false, List, ◌++◌, Contains, map, Some, None, ◌⊎◌}
+use Rattle.std.specs.Prelude.{◌≡◌, ◌≢◌, ℕ, ◌<◌, false, List, ◌++◌, Contains, IfSome, map, Some, None, ◌⊎◌}
+use Rattle.std.specs.List.{AllByRecursion}
 use Rattle.bucket_api.specs.BucketState.{BucketState, object_at}
 use Rattle.bucket_api.specs.Log.{event_at, state_at}
 use Rattle.bucket_api.specs.LogEvent.{LogEvent}
 use Rattle.bucket_api.specs.Moments.{position_of}
 use Rattle.bucket_api.specs.Operation.{Operation, stat, list}
-use Rattle.history_spec.specs.Account.{Item, looked}
 use Rattle.history_spec.specs.JournalState.{EndedCall, JournalState, OpenCall, past_of}
 use Rattle.history_spec.specs.Pasts.{key_of, lifetime_of}
 use Rattle.mount_rules.specs.Dispatch.{rules_of}
@@ -39,10 +39,20 @@ IsSettled start log state o moment (stat name) =
     (m : ℕ) (event : LogEvent) → m < moment → event_at log m ≡ Some event → Contains (lanes_of state) event.lane → Changes start log m name → IsKnownTo o m event
 IsSettled start log state o moment op = Unit {0}
 
--- what an item of the call tells is settled
-abbrev pub TellsSettled : BucketState → List LogEvent → JournalState → OpenCall → Item → Type 0
-TellsSettled start log state o (looked moment kept) = (event : LogEvent) → event_at log moment ≡ Some event → IsSettled start log state o moment event.op
-TellsSettled start log state o item = Unit {0}
+-- a stat doesn't show a change that was made at this moment
+abbrev pub IsUnseen : BucketState → List LogEvent → ℕ → Operation → Type 0
+IsUnseen start log changed (stat name) = Changes start log changed name → ⊥
+IsUnseen start log changed op = Unit {0}
+
+-- By no stat at one of these moments does a call see what another had changed at one of those.
+abbrev pub SeesNothingOf : BucketState → List LogEvent → List ℕ → List ℕ → Type 0
+SeesNothingOf start log own others =
+    AllByRecursion (λ moment. AllByRecursion (λ changed. changed < moment → IfSome (event_at log moment) (λ (e : LogEvent). IsUnseen start log changed e.op)) others) own
+
+-- Neither of two calls saw by a stat what the other had changed, of the moments that each made.
+pub record AreUnseen (start : BucketState) (log : List LogEvent) (own others : List ℕ) : Type 0 where
+  pub mine : SeesNothingOf start log own others
+  pub theirs : SeesNothingOf start log others own
 
 -- the keys of which a call looks for records, by what it saw at its take
 abbrev pub keys_taken : overlap.OpenCall → List Key

@@ -18,12 +18,14 @@ pub fn history_laws()
 
 /// What holds of the lanes in which a mount takes calls: each has at most one call under way, its next one; what its calls
 /// made stays all that it made, by each turn at which the mount has seen the whole log, and by each event of its call under
-/// way; and then what a call sees by a stat of its own is settled, if no call beside it has changed the name.
+/// way; and then what a call sees by a stat of its own is settled, if no call beside it has changed the name, and so for all
+/// calls once none is under way.
 pub fn lane_laws()
     ensures turns { laws.LanesAreInTurn }
     ensures covers { laws.TurnKeepsCovered }
     ensures events { laws.EventKeepsCovered }
     ensures settled { laws.StatIsSettled }
+    ensures last { laws.SettledAtLast }
 {}
 
 /// What holds of the walk of a call under way: it begins with no item, goes on by each event of its lane that its plan

@@ -1,13 +1,12 @@
 -- The account of a mount on one thread: there is one; and what a call, a write beside it and a tick add to it.
-use Rattle.std.proofs.Common.{◌≡◌, ◌≤◌, ◌+◌, ℕ, zero, suc, Bool, true, false, All, List, [], ◌∷◌, ◌++◌, length, map, cond, Some, None, refl, sym, ap, subst, ◌∙◌, inl, inr, arith, append_assoc, append-nil, length-append}
-use Rattle.std.proofs.lemmas.List.{map-append}
+use Rattle.std.proofs.Common.{◌≡◌, ◌≤◌, ◌+◌, ℕ, zero, suc, Bool, true, false, All, List, [], ◌∷◌, ◌++◌, length, map, cond, Some, None, refl, sym, ap, subst, ◌∙◌, inl, inr, arith, append_assoc, append-nil, length-append, take}
+use Rattle.std.proofs.lemmas.List.{append_cancel_right, map-append}
 use Rattle.std.proofs.lemmas.List.Elements.{All-head, All-tail}
 use Rattle.std.specs.List.{AllByRecursion}
 use Rattle.std.specs.Option.{option_map_or}
 use Rattle.std.specs.Prelude.{Contains, IsSome, is_some, not, ◌==◌}
 use Rattle.bucket_api.specs.BucketState.{BucketState}
 use Rattle.bucket_api.specs.LogEvent.{LogEvent}
-use Rattle.bucket_api.specs.Operation.{Operation, copy, delete, insert, list, read, stat, update}
 use Rattle.bucket_api.specs.declared.events.Mode.{Mode}
 use Rattle.fuse_replies.specs.declared.reply.Reply.{Reply}
 use Rattle.history_laws.specs.Apart.{OneByOne}
@@ -16,14 +15,13 @@ use Rattle.history_spec.proofs.JournalLaws.{entry_is_added, log_grows}
 use Rattle.history_spec.proofs.LaneLaws.{event_keeps_covered, turn_keeps_covered}
 use Rattle.history_spec.proofs.Lanes.{open_of-first, same_lane}
 use Rattle.history_spec.proofs.OneAccount.{accounts_are_one}
-use Rattle.history_spec.proofs.Settling.{stat_is_settled}
 use Rattle.history_spec.specs.Account as account
-use Rattle.history_spec.specs.Account.{Account, Item, Turn, journal_of, looked, made, printed, recalled, uses_of}
+use Rattle.history_spec.specs.Account.{Account, Item, Turn, journal_of, own_moments_of, printed, uses_of}
 use Rattle.history_spec.specs.Fits.{EndsBy, HasWalked, IsAccount, MayBeDone, MayFollow, plan_of}
 use Rattle.history_spec.specs.JournalState.{EndedCall, JournalState, OpenCall, after_done, after_turn, at_front, ended_by, open_of, others_of, reached, reply_by, taken_by, with_taken}
-use Rattle.history_spec.specs.Lanes.{IsBeside, IsCovered}
+use Rattle.history_spec.specs.Lanes.{IsCovered}
 use Rattle.history_spec.specs.Laws.{GoesOn, IsAdded, IsTaken, StaysOver, done_of, take_of}
-use Rattle.history_spec.specs.Looks.{IsSettled, TellsSettled, lanes_of}
+use Rattle.history_spec.specs.Looks.{AreUnseen, lanes_of}
 use Rattle.history_spec.specs.Observing.{seen_by}
 use Rattle.mount_core.specs.Lones.{Calls, LoneState, StillTells, Tells, TicksOn, come_to, first_lone, with_tick}
 use Rattle.mount_model.specs.Journal as journal
@@ -121,34 +119,14 @@ module _ (lone : LoneState) (told : Account) (tells : Tells lone told) (o : Open
         covered_along lone.config lone.start lone.log more (told ++ take_of o ∷ []) under_way lane took.is (took.reaches ∙ taken_so) (each_open lane more own)
         (covered_at_take lane among)
 
-    -- nobody is beside it
-    alone : (os : List OpenCall) → os ≡ [] → (lane : ℕ) (other : OpenCall) → open_of (o ∷ os) lane ≡ Some other → other.call.lane ≡ o.call.lane
-    alone os none lane other is = by (o.call.lane == lane) (ap (λ rest. open_of (o ∷ rest) lane) (sym none) ∙ is)
-      where
-        by : (its : Bool) → cond its (Some o) None ≡ Some other → other.call.lane ≡ o.call.lane
-        by true e = let same : o ≡ other = cc in ap (λ (x : OpenCall). x.call.lane) (sym same)
-        by false e = absurd (let never : None ≡ Some other = e in cc)
+    -- no call was done since its take
+    none_since : (since : List EndedCall) → (with_taken (come_to lone told) o).ended ≡ since ++ o.before → since ≡ []
+    none_since since earlier = sym (append_cancel_right [] since o.before (ap (λ (x : OpenCall). x.before) taken.so ∙ earlier))
 
-    beside_none : (m : ℕ) (event : LogEvent) → IsBeside [] (with_taken (come_to lone told) o) o m event → ⊥
-    beside_none m event (inl (e, there, its)) = omega (arith, there.1)
-    beside_none m event (inr (other, is_open, differ, since)) = differ (alone before.opened tells.idle event.lane other is_open)
-
-    settled_look : (moment : ℕ) (op : Operation) → IsSettled lone.start (lone.log ++ more) (with_taken (come_to lone told) o) o moment op
-    settled_look moment (stat name) =
-        stat_is_settled lone.start whole under_way o [] moment name found (sym (ap (λ (x : OpenCall). x.before) taken.so)) covered_so
-        (λ m event before_it there changed beside. beside_none m event beside)
-    settled_look moment (read name generation first count) = tt
-    settled_look moment (insert name content pairs only stamp) = tt
-    settled_look moment (update name pairs only only_meta stamp) = tt
-    settled_look moment (delete name only) = tt
-    settled_look moment (copy from generation to stamp) = tt
-    settled_look moment (list prefix slash max after) = tt
-
-    settled_items : (items : List Item) → AllByRecursion (TellsSettled lone.start (lone.log ++ more) (with_taken (come_to lone told) o) o) items
-    settled_items [] = tt
-    settled_items (looked moment kept ∷ items) = (λ event there. settled_look moment event.op, settled_items items)
-    settled_items (recalled moment ∷ items) = (tt, settled_items items)
-    settled_items (made moment ∷ items) = (tt, settled_items items)
+    settled_so : (items : List Item) (since : List EndedCall) → (with_taken (come_to lone told) o).ended ≡ since ++ o.before
+        → AllByRecursion (λ (e : EndedCall). AreUnseen lone.start (take (length (lone.log ++ more)) (lone.log ++ more)) (own_moments_of items) e.own) since
+    settled_so items since earlier =
+        subst (AllByRecursion (λ (e : EndedCall). AreUnseen lone.start (take (length (lone.log ++ more)) (lone.log ++ more)) (own_moments_of items) e.own)) (sym (none_since since earlier)) tt
 
     module _ (h : How) (items : List Item) (walk : HasWalked lone.start (lone.log ++ more) (plan_of (with_taken (come_to lone told) o) o) o (length (lone.log ++ more)) items)
         (ends : EndsBy h (plan_of (with_taken (come_to lone told) o) o) (seen_by lone.start (lone.log ++ more) items)) where
@@ -166,7 +144,7 @@ module _ (lone : LoneState) (told : Account) (tells : Tells lone told) (o : Open
       }
 
       may : MayBeDone lone.start (lone.log ++ more) (with_taken (come_to lone told) o) o (length (lone.log ++ more)) h items
-      may = record { walk = walk; settled = settled_items items; ends = ends }
+      may = record { walk = walk; settled = settled_so items; ends = ends }
 
       added : IsAdded lone.config lone.start lone.log more told o h items fill.Nothing
       added = call_is_added lone.config lone.start lone.log more told o h items fill.Nothing tells.is taken may

@@ -1,5 +1,6 @@
 -- The laws of lanes.
 use Rattle.history_spec.proofs.LaneLaws.{event_keeps_covered, lanes_are_in_turn, turn_keeps_covered}
+use Rattle.history_spec.proofs.SettledAtLast.{settled_at_last}
 use Rattle.history_spec.proofs.Settling.{stat_is_settled}
 use Rattle.history_spec.proofs.laws.lane_laws.Goals as goal
 
@@ -14,3 +15,6 @@ returns-clause-events c = event_keeps_covered
 
 pub returns-clause-settled : goal.returns-clause-settled
 returns-clause-settled c = stat_is_settled
+
+pub returns-clause-last : goal.returns-clause-last
+returns-clause-last c = settled_at_last
