@@ -136,7 +136,7 @@ module _ (implicit : Bool) (start : BucketState) (log : List LogEvent) (clock : 
 
 -- ---- along an account
 module _ (config : Config) (start : BucketState) (log : List LogEvent) where
-  keeps_up_found : (past : Past) (now : ℕ) (keys : List Key) (asks : Plan) (list : RecordList) → KeepsUp config.implicit_dirs past list
+  pub keeps_up_found : (past : Past) (now : ℕ) (keys : List Key) (asks : Plan) (list : RecordList) → KeepsUp config.implicit_dirs past list
       → KeepsUp config.implicit_dirs past (found_in config now asks keys list)
   keeps_up_found past now [] asks list k = k
   keeps_up_found past now (key ∷ keys) asks list k = by (is_some (asked_by (asks []))) (keeps_up_found past now keys next found_list (KeepsUp-found config.implicit_dirs past list key now (lifetime_of config key) k))

@@ -23,7 +23,7 @@ use Rattle.thrift_spec.specs.Laws.{FoundStaysKnown}
 use Rattle.thrift_spec.specs.Records.{AllTold, AreTold, IsToldBy, act_at, found_in, list_after_items, list_after_turn, list_after_turns, list_by, plan_found, records_at}
 
 module _ (config : Config) (start : BucketState) (log : List LogEvent) where
-  found_rises : (now : ℕ) (keys : List Key) (asks : Plan) (list : RecordList) → NoneFalls list (found_in config now asks keys list)
+  pub found_rises : (now : ℕ) (keys : List Key) (asks : Plan) (list : RecordList) → NoneFalls list (found_in config now asks keys list)
   found_rises now [] asks list = NoneFalls-refl list
   found_rises now (key ∷ keys) asks list = by (is_some (asked_by (asks []))) (found_rises now keys next found_list)
     where
@@ -38,12 +38,12 @@ module _ (config : Config) (start : BucketState) (log : List LogEvent) where
       by false later = NoneFalls-refl list
 
   module _ (clock : ℕ) where
-    act_rises : (past : Past) (list : RecordList) (act : Option Act) → KeepsUp config.implicit_dirs past list → IfSome act (MayHappen list)
+    pub act_rises : (past : Past) (list : RecordList) (act : Option Act) → KeepsUp config.implicit_dirs past list → IfSome act (MayHappen list)
         → NoneFalls list (list_by config.implicit_dirs start log clock list act)
     act_rises past list None k may = NoneFalls-refl list
     act_rises past list (Some act) k may = NoneFalls-after config.implicit_dirs list act k.few may
 
-    items_rise : (past : Past) (list : RecordList) (items : List Item) → KeepsUp config.implicit_dirs past list → AreTold config.implicit_dirs start log clock list items
+    pub items_rise : (past : Past) (list : RecordList) (items : List Item) → KeepsUp config.implicit_dirs past list → AreTold config.implicit_dirs start log clock list items
         → NoneFalls list (list_after_items config.implicit_dirs start log clock list items)
     items_rise past list [] k told = NoneFalls-refl list
     items_rise past list (item ∷ items) k told =

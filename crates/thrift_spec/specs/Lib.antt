@@ -2,4 +2,7 @@
 pub mod Records
 pub mod Files
 pub mod Thrift
+pub mod OneCall
+pub mod Contents
+pub mod Recalls
 pub mod Laws

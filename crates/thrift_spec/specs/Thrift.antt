@@ -100,6 +100,14 @@ module _ (config : Config) (start : BucketState) (log : List LogEvent) where
     files = files_after_turn config start log state kept.files turn;
   }
 
+  abbrev pub kept_after_turns : JournalState → Kept → Account → Kept
+  kept_after_turns state kept [] = kept
+  kept_after_turns state kept (turn ∷ turns) = kept_after_turns (after_turn config start log state turn) (kept_after_turn state kept turn) turns
+
+  -- what a mount keeps at the end of an account
+  abbrev pub kept_at : Account → Kept
+  kept_at turns = kept_after_turns first_journal (none_kept config) turns
+
   -- the end of this call is thrifty
   pub record EndsThrifty (kept : Kept) (o : OpenCall) (h : How) (items : List Item) (fill : Fill) : Type 0 where
     pub looks : AllThrifty start log o (kept.found o.call.lane) items

@@ -3,4 +3,4 @@
 
 mod laws;
 
-pub use laws::thrift_laws;
+pub use laws::{keeping_laws, recall_laws, thrift_laws};
