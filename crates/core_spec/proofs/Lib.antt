@@ -1,0 +1,21 @@
+-- The lemmas of accounts of a mount that many calls share.
+pub mod Almost
+pub mod Apart
+pub mod AtOnce
+pub mod Beside
+pub mod Changing
+pub mod Covering
+pub mod Ending
+pub mod Explaining
+pub mod Finishing
+pub mod First
+pub mod Flags
+pub mod Looking
+pub mod Meeting
+pub mod Taking
+pub mod Thrifts
+pub mod TicketEnds
+pub mod TicketMounts
+pub mod TicketSteps
+pub mod Ticking
+pub mod UnderWay
