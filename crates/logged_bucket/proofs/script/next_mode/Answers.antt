@@ -1,5 +1,5 @@
 -- The front of what is to come says the next mode.
-use Rattle.std.proofs.Common.{◌+◌, length, refl, sym, ◌∙◌}
+use Rattle.std.proofs.Common.{length, refl, sym, ◌∙◌}
 use Rattle.std.proofs.lemmas.Option.{slice_get_read}
 use Rattle.logged_bucket.proofs.ScriptLaws.{done_next, still_to_come, faulty_next, next_to_come}
 use Rattle.logged_bucket.proofs.script.next_mode.Goals as goal
