@@ -43,7 +43,7 @@ module _ (config : Config) (start : BucketState) (log : List LogEvent) where
   kept_at-append turns more = kept_after_turns-append first_journal (none_kept config) turns more
 
   -- the records that are kept are the record list
-  records_after_turn : (state : JournalState) (kept : Kept) (turn : Turn) → (kept_after_turn config start log state kept turn).records ≡ list_after_turn config start log state kept.records turn
+  pub records_after_turn : (state : JournalState) (kept : Kept) (turn : Turn) → (kept_after_turn config start log state kept turn).records ≡ list_after_turn config start log state kept.records turn
   records_after_turn state kept (account.take call front request) = refl
   records_after_turn state kept (account.done call front h items fill) = refl
   records_after_turn state kept (account.tick front seconds) = refl

@@ -12,3 +12,4 @@ pub mod Probes
 pub mod LookSteps
 pub mod LooksAreOne
 pub mod Recalling
+pub mod ServedLooks

@@ -61,7 +61,7 @@ names_child first part is = record {
   ends = ends_behind first part is.named ∙ no_slash_ends part is.no_slash;
 }
 
-names_path : (path : List ℕ) → IsPath path → NamesObject path
+pub names_path : (path : List ℕ) → IsPath path → NamesObject path
 names_path path is = subst NamesObject (sym is.is) (names_child is.prefix is.part is.child)
 
 -- ---- the looks at an object's name
@@ -73,7 +73,7 @@ module _ (implicit : Bool) where
       by true = refl
       by false = refl
 
-  dir_ends : (path : List ℕ) → 1 ≤ length path → ends_in_slash (dir_prefix_of path) ≡ true
+  pub dir_ends : (path : List ℕ) → 1 ≤ length path → ends_in_slash (dir_prefix_of path) ≡ true
   dir_ends [] some = absurd (omega (arith, some))
   dir_ends (b ∷ path) some = ends_at (b ∷ path)
 

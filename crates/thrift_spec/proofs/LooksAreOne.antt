@@ -31,7 +31,7 @@ use Rattle.thrift_spec.specs.Recalls.{look_for}
 use Rattle.thrift_spec.proofs.LookSteps.{NamesObject, names_child, AsksObject, KeyLooks, done_looks, for_found, either, update_looks, standing_looks, flush_looks, while_looks, moving_looks, lookup_looks, asked_object, opendir_looks, making_looks, unlink_looks, rmdir_looks}
 
 -- ---- the name of a request
-refuses_none : (mount : MountModel) (request : Request) → goes_on mount request ≡ true → (rules_of request).refusal (view_in mount request) ≡ None
+pub refuses_none : (mount : MountModel) (request : Request) → goes_on mount request ≡ true → (rules_of request).refusal (view_in mount request) ≡ None
 refuses_none mount request on = by (is_idle mount request) (early mount request) refl on
   where
     last : (c : Bool) → (if c then Some eproto else (rules_of request).refusal (view_in mount request)) ≡ None → (rules_of request).refusal (view_in mount request) ≡ None
@@ -43,12 +43,12 @@ refuses_none mount request on = by (is_idle mount request) (early mount request)
     by false (Some errno) is e = absurd (cc)
     by false None is e = last (not mount.negotiated && not (is_silent request) && not (is_init request)) is
 
-lookup_named : (name : List ℕ) (view : View) → lookup.refusal name view ≡ None → NamesObject (lookup.path_of name view)
+pub lookup_named : (name : List ℕ) (view : View) → lookup.refusal name view ≡ None → NamesObject (lookup.path_of name view)
 lookup_named name view free =
     let d = in_directory-none view.node (part_refusal (bare_name name)) free in
     subst NamesObject (sym (ap (λ seen. path_in seen (bare_name name)) d.is)) (names_child d.sight.name (bare_name name) (part_refusal-none (bare_name name) d.sight d.next_none).component)
 
-rename_named : (names : rename.Names) (view : View) → rename.refusal names view ≡ None → NamesObject (rename.from_of names view)
+pub rename_named : (names : rename.Names) (view : View) → rename.refusal names view ≡ None → NamesObject (rename.from_of names view)
 rename_named names view free =
     let old = on_live-none view.node _ free in
     let new = on_live-none view.directory _ old.next_none in
@@ -91,7 +91,7 @@ module _ (at : AtTake) (mount : MountModel) (is : IsMount mount) where
   rename_looks names view free told = either implicit (rename.is_same names view) _ _ (done_looks implicit)
       (moving_looks implicit (rename.from_of names view) (rename.to_of names view) (rename_named names view free) (has_suffix names.name) at.second told)
 
-  as_rename : (flags : ℕ) (names : rename.Names) (view : View) → rename2.refusal flags names view ≡ None → rename.refusal names view ≡ None
+  pub as_rename : (flags : ℕ) (names : rename.Names) (view : View) → rename2.refusal flags names view ≡ None → rename.refusal names view ≡ None
   as_rename flags names view free = by (flags == 0) free
     where
       by : (b : Bool) → (if b then rename.refusal names view else Some 22) ≡ None → rename.refusal names view ≡ None

@@ -1,16 +1,18 @@
 -- One call more of a mount that has none under way: what is kept once it is taken, and once it is done; and when its end is
 -- thrifty.
-use Rattle.std.proofs.Common.{◌≡◌, ℕ, ◌≤◌, cond, List, [], ◌∷◌, ◌++◌, length, Option, Some, None, IfSome, refl, sym, ap, subst, ◌∙◌, arith}
+use Rattle.std.proofs.Common.{◌≡◌, ℕ, ◌≤◌, Bool, cond, List, [], ◌∷◌, ◌++◌, length, Option, Some, None, IfSome, refl, sym, ap, subst, ◌∙◌, arith}
 use Rattle.std.proofs.lemmas.List.{take-append-le}
+use Rattle.std.proofs.lemmas.List.Elements.{All-contains}
 use Rattle.std.specs.Option.{option_map_or}
 use Rattle.std.specs.Prelude.{option_and_then, option_map}
 use Rattle.bucket_api.specs.BucketState.{BucketState}
 use Rattle.bucket_api.specs.LogEvent.{LogEvent}
 use Rattle.history_spec.proofs.Agreeing.{at_same}
 use Rattle.history_spec.proofs.JournalLaws.{log_grows}
+use Rattle.history_spec.proofs.Walking.{Walked}
 use Rattle.history_spec.proofs.Lanes.{open_of-first, same_lane}
 use Rattle.history_spec.specs.Account.{Account, Item, looked, made, moment_of, recalled}
-use Rattle.history_spec.specs.Fits.{IsAccount}
+use Rattle.history_spec.specs.Fits.{IsAccount, MayTell}
 use Rattle.history_spec.specs.JournalState.{JournalState, OpenCall, after_turn, at_front, first_journal, open_of, past_of, reached, taken_by, with_taken}
 use Rattle.history_spec.specs.Laws.{IsTaken, StaysOver, done_of, take_of}
 use Rattle.history_spec.specs.Observing.{observed_at, seen_by}
@@ -21,7 +23,7 @@ use Rattle.mount_model.specs.declared.journal.Fill.{Fill}
 use Rattle.mount_model.specs.declared.journal.How.{How}
 use Rattle.mount_rules.specs.Dispatch.{plan, rules_of, view_in, wants}
 use Rattle.mount_rules.specs.Overlap.{opened_at}
-use Rattle.mount_rules.specs.Plans.{Plan}
+use Rattle.mount_rules.specs.Plans.{Plan, plan_after}
 use Rattle.mount_rules.specs.Rules.{AtTake}
 use Rattle.record_spec.proofs.KnownLaws.{NoneFalls-trans}
 use Rattle.record_spec.proofs.UseLaws.{KeepsUp-empty}
@@ -29,34 +31,30 @@ use Rattle.record_spec.specs.Laws as laws
 use Rattle.record_spec.specs.Laws.{Act, MayHappen, NoneFalls}
 use Rattle.record_spec.specs.Past.{KeepsUp, Past}
 use Rattle.record_spec.specs.RecordList.{Key, RecordList, empty_list, known_to}
-use Rattle.thrift_spec.proofs.InParts.{IsThriftyAccount-append, kept_at-append, records_of_kept, thrifty_is_told}
+use Rattle.record_spec.specs.declared.records.Record.{Record}
+use Rattle.thrift_spec.proofs.InParts.{AllTold-append, IsThriftyAccount-append, kept_at-append, records_after_turn, records_of_kept, thrifty_is_told}
 use Rattle.thrift_spec.proofs.KeepingUp.{keeps_up_act, keeps_up_along, keeps_up_found, past_with}
 use Rattle.thrift_spec.proofs.Rising.{act_rises, found_known, found_rises}
 use Rattle.thrift_spec.proofs.SameUpTo.{kept_over_longer}
 use Rattle.thrift_spec.specs.Files.{files_filled, wholes_read}
-use Rattle.thrift_spec.specs.Records.{AreTold, RecordsAreTold, act_at, act_of, found_in, list_after_items, list_by, records_at}
+use Rattle.thrift_spec.specs.Records.{AllTold, AreTold, RecordsAreTold, act_at, act_of, found_in, list_after_items, list_by, records_at}
 use Rattle.thrift_spec.specs.Thrift.{AllThrifty, EndsThrifty, IsThrifty, IsThriftyAccount, Kept, ReadsAre, ThriftyFrom, kept_after_turn, kept_after_turns, kept_at, reads_of, with_lane}
-use Rattle.thrift_spec.specs.OneCall.{EndsWell, IsToldOwn, KeepsCall, KeptOver, OwnAreTold, files_taken, kept_done, kept_taken, reads_taken, records_taken}
+use Rattle.thrift_spec.specs.OneCall.{AllKnown, EndsWell, IsKnown, IsToldOwn, KeepsCall, KeptOver, ListsCall, OwnAreTold, files_taken, kept_done, kept_taken, reads_taken, records_taken}
 
 module _ (config : Config) (start : BucketState) (log : List LogEvent) (o : OpenCall) (found : RecordList) where
   abbrev next_list : RecordList → Item → RecordList
   next_list list item = list_by config.implicit_dirs start log o.clock list (act_at config.implicit_dirs start log o.clock list item)
 
-  -- a record that was found is no newer than what a later list knows of its key
-  use_told : (list : RecordList) (moment : ℕ) → NoneFalls found list → IfSome (observed_at start log moment) (IsThrifty start log o found (recalled moment))
+  -- what is known of a key stays known
+  use_told : (list : RecordList) (moment : ℕ) → NoneFalls found list → IfSome (observed_at start log moment) (IsKnown found (recalled moment))
       → IfSome (act_at config.implicit_dirs start log o.clock list (recalled moment)) (MayHappen list)
-  use_told list moment rises thrifty = by (observed_at start log moment) thrifty
+  use_told list moment rises known = by (observed_at start log moment) known
     where
-      by : (seen : Option Observed) → IfSome seen (IsThrifty start log o found (recalled moment))
-          → IfSome (option_and_then (λ (s : Observed). Some (laws.used (key_of s.op) moment)) seen) (MayHappen list)
-      by None thrifty = tt
-      by (Some seen) thrifty =
-          let up : known_to found (key_of seen.op) ≤ known_to list (key_of seen.op) = rises (key_of seen.op) in
-          let known : known_to found (key_of seen.op) ≡ thrifty.0.moment = found_known found (key_of seen.op) o.clock (lifetime_of o.taken.at.config (key_of seen.op)) thrifty.0 thrifty.1 in
-          let its : thrifty.0.moment ≡ moment = thrifty.2 in
-          omega arith
+      by : (seen : Option Observed) → IfSome seen (IsKnown found (recalled moment)) → IfSome (option_and_then (λ (s : Observed). Some (laws.used (key_of s.op) moment)) seen) (MayHappen list)
+      by None known = tt
+      by (Some seen) known = let up : known_to found (key_of seen.op) ≤ known_to list (key_of seen.op) = rises (key_of seen.op) in omega (arith, known)
 
-  item_told : (list : RecordList) (item : Item) → NoneFalls found list → IfSome (observed_at start log (moment_of item)) (IsThrifty start log o found item)
+  item_told : (list : RecordList) (item : Item) → NoneFalls found list → IfSome (observed_at start log (moment_of item)) (IsKnown found item)
       → IsToldOwn config.implicit_dirs start log o.clock list item → IfSome (act_at config.implicit_dirs start log o.clock list item) (MayHappen list)
   item_told list (looked moment kept) rises thrifty told = told
   item_told list (recalled moment) rises thrifty told = use_told list moment rises thrifty
@@ -71,7 +69,7 @@ module _ (config : Config) (start : BucketState) (log : List LogEvent) (o : Open
           by (Some name) = tt
 
   -- What a call used was found at its take, and its own looks are told by their flags: so its end tells all.
-  pub told_by_own : (past : Past) (list : RecordList) (items : List Item) → KeepsUp config.implicit_dirs past list → NoneFalls found list → AllThrifty start log o found items
+  pub told_by_own : (past : Past) (list : RecordList) (items : List Item) → KeepsUp config.implicit_dirs past list → NoneFalls found list → AllKnown start log found items
       → OwnAreTold config.implicit_dirs start log o.clock list items → AreTold config.implicit_dirs start log o.clock list items
   told_by_own past list [] keeps rises thrifty told = tt
   told_by_own past list (item ∷ items) keeps rises thrifty told = (
@@ -85,6 +83,37 @@ module _ (config : Config) (start : BucketState) (log : List LogEvent) (o : Open
 
       here : IfSome (act_at config.implicit_dirs start log o.clock list item) (MayHappen list)
       here = item_told list item rises thrifty.0 told.0
+
+-- what a thrifty end used was found, so it was known
+uses_known : (start : BucketState) (log : List LogEvent) (o : OpenCall) (list : RecordList) (items : List Item) → AllThrifty start log o list items → AllKnown start log list items
+uses_known start log o list [] thrifty = tt
+uses_known start log o list (item ∷ items) thrifty = (by item (observed_at start log (moment_of item)) thrifty.0, uses_known start log o list items thrifty.1)
+  where
+    by : (i : Item) (seen : Option Observed) → IfSome seen (IsThrifty start log o list i) → IfSome seen (IsKnown list i)
+    by i None t = tt
+    by (looked moment kept) (Some s) t = tt
+    by (recalled moment) (Some s) t =
+        let known : known_to list (key_of s.op) ≡ t.0.moment = found_known list (key_of s.op) o.clock (lifetime_of o.taken.at.config (key_of s.op)) t.0 t.1 in
+        let its : t.0.moment ≡ moment = t.2 in
+        omega arith
+    by (made moment) (Some s) t = tt
+
+-- What a record showed that may serve was seen by a call before the take: so it is known, where the list keeps up with those.
+pub walk_known : (start : BucketState) (log : List LogEvent) (o : OpenCall) (implicit : Bool) (list : RecordList) (plan : Plan) (items : List Item)
+    → KeepsUp implicit (past_of o.before) list → Walked start log o plan items → AllKnown start log list items
+walk_known start log o implicit list plan [] keeps walked = tt
+walk_known start log o implicit list plan (item ∷ items) keeps walked = (
+  subst (λ seen. IfSome seen (IsKnown list item)) (sym walked.1) (by item walked.3),
+  walk_known start log o implicit list (plan_after plan walked.0.answer) items keeps walked.4,
+)
+  where
+    by : (i : Item) → MayTell o walked.0.op i → IsKnown list i walked.0
+    by (looked moment kept) may = tt
+    by (recalled moment) may =
+        let seen : may.1.r.moment ≤ known_to list (key_of walked.0.op) =
+        All-contains (λ (u : Key × Record). u.1.moment ≤ known_to list u.0) (past_of o.before).seen (key_of walked.0.op, may.1.r) keeps.seen may.1.lawful.shown in
+        subst (λ n. n ≤ known_to list (key_of walked.0.op)) may.1.is seen
+    by (made moment) may = tt
 
 module _ (config : Config) (start : BucketState) (log : List LogEvent) (state : JournalState) (o : OpenCall) (taken : IsTaken config start log state o) where
   clock_is : o.clock ≡ state.clock
@@ -142,11 +171,11 @@ module _ (config : Config) (start : BucketState) (log : List LogEvent) (state : 
     fills = well.fills;
   }
 
-  ends_told : (kept : Kept) (past : Past) → KeepsUp config.implicit_dirs past kept.records → EndsWell config start log state kept o h items fill
-      → AreTold config.implicit_dirs start log o.clock (records_taken config state kept.records o) items
-  ends_told kept past keeps well =
-      told_by_own config start log o kept.records past (records_taken config state kept.records o) items
-      (keeps_up_found config start log past o.clock keys asks kept.records keeps) (found_rises config start log o.clock keys asks kept.records) well.looks well.told
+  pub ends_told : (list : RecordList) (past : Past) → KeepsUp config.implicit_dirs past list → AllKnown start log list items
+      → OwnAreTold config.implicit_dirs start log o.clock (records_taken config state list o) items → AreTold config.implicit_dirs start log o.clock (records_taken config state list o) items
+  ends_told list past keeps uses told =
+      told_by_own config start log o list past (records_taken config state list o) items
+      (keeps_up_found config start log past o.clock keys asks list keeps) (found_rises config start log o.clock keys asks list) uses told
     where
       keys : List Key
       keys = (rules_of o.taken.request).keys (view_in state.mount o.taken.request)
@@ -158,7 +187,7 @@ module _ (config : Config) (start : BucketState) (log : List LogEvent) (state : 
       → ThriftyFrom config start log (with_taken state o) (kept_taken config state kept o) (done_of o front h items fill ∷ [])
   thrifty_end kept past keeps well = (
     subst (λ found. IfSome found (λ (x : OpenCall). EndsThrifty config start log (kept_taken config state kept o) x h items fill)) (sym is_open) (ends_thrifty kept well),
-    subst (λ found. IfSome found (λ (x : OpenCall). AreTold config.implicit_dirs start log x.clock (records_taken config state kept.records o) items)) (sym is_open) (ends_told kept past keeps well),
+    subst (λ found. IfSome found (λ (x : OpenCall). AreTold config.implicit_dirs start log x.clock (records_taken config state kept.records o) items)) (sym is_open) (ends_told kept.records past keeps (uses_known start log o kept.records items well.looks) well.told),
     tt,
   )
 
@@ -219,3 +248,45 @@ module _ (config : Config) (start : BucketState) (log more : List LogEvent) (tur
         (subst (λ s. ThriftyFrom config start whole s kept both) (sym grown.reaches)
         (thrifty_both (keeps_up thrifty) well)));
   }
+
+  -- ---- the record list alone
+  abbrev list_before : RecordList
+  list_before = records_at config start log turns
+
+  kept_is : kept.records ≡ records_at config start log turns
+  kept_is = records_of_kept config start log turns
+
+  lists_so : records_at config start (log ++ more) (turns ++ take_of o ∷ done_of o (length (log ++ more)) h items fill ∷ [])
+      ≡ list_after_items config.implicit_dirs start (log ++ more) o.clock (records_taken config (reached config start log turns) (records_at config start log turns) o) items
+  lists_so = sym (records_of_kept config start whole (turns ++ both))
+      ∙ (ap (λ (k : Kept). k.records) keeps_call.keeps
+      ∙ ap (λ list. list_after_items config.implicit_dirs start whole o.clock (records_taken config before list o) items) kept_is)
+
+  -- the flags of the call, where its end is told
+  told_both : AreTold config.implicit_dirs start (log ++ more) o.clock (records_taken config (reached config start log turns) (kept_at config start log turns).records o) items
+      → AllTold config start (log ++ more) (reached config start log turns) (kept_at config start log turns).records (take_of o ∷ done_of o (length (log ++ more)) h items fill ∷ [])
+  told_both told = (
+    tt,
+    subst (λ list. AllTold config start whole (after_turn config start whole before (take_of o)) list (done_of o (length whole) h items fill ∷ []))
+        (sym (sym (records_after_turn config start whole before kept (take_of o)) ∙ ap (λ (k : Kept). k.records) (taken_keeps config start log before o taken kept more)))
+        (subst (λ s. AllTold config start whole s (records_taken config before kept.records o) (done_of o (length whole) h items fill ∷ [])) (sym (taken_leaves config start log before o taken more)) (
+          subst (λ found. IfSome found (λ (x : OpenCall). AreTold config.implicit_dirs start whole x.clock (records_taken config before kept.records o) items))
+              (sym (is_open config start whole before o (length whole) h items fill)) told,
+          tt,
+        )),
+  )
+
+  told_so : RecordsAreTold config start log turns → AllKnown start (log ++ more) (records_at config start log turns) items
+      → OwnAreTold config.implicit_dirs start (log ++ more) o.clock (records_taken config (reached config start log turns) (records_at config start log turns) o) items
+      → RecordsAreTold config start (log ++ more) (turns ++ take_of o ∷ done_of o (length (log ++ more)) h items fill ∷ [])
+  told_so recorded uses own =
+      AllTold-append config start whole first_journal (empty_list config.record_capacity) turns both (over.told recorded)
+      (subst (λ list. AllTold config start whole (reached config start whole turns) list both)
+      (sym (ap (λ (k : Kept). k.records) over.keeps) ∙ records_of_kept config start whole turns)
+      (subst (λ s. AllTold config start whole s kept.records both) (sym grown.reaches)
+      (told_both
+      (subst (λ list. AreTold config.implicit_dirs start whole o.clock (records_taken config before list o) items) (sym kept_is)
+      (ends_told config start whole before o (length whole) h items fill list_before (past_of before.ended) (keeps_up_at config start log turns recorded) uses own)))))
+
+  pub lists_call : ListsCall config start log more turns o h items fill
+  lists_call = record { lists = lists_so; told = told_so }

@@ -83,10 +83,10 @@ module _ (config : Config) (start : BucketState) (log : List LogEvent) where
   abbrev HasConfig : OpenCall → Type 0
   HasConfig o = o.taken.at.config ≡ config
 
-  record KnowsLooks (state : JournalState) : Type 0 where
-    mount : IsMount state.mount
-    configs : AllByRecursion (λ (o : OpenCall). o.taken.at.config ≡ config) state.opened
-    looks : All (λ (u : Key × Record). IsOfLook start log config.implicit_dirs u.0 u.1) (past_of state.ended).seen
+  pub record KnowsLooks (state : JournalState) : Type 0 where
+    pub mount : IsMount state.mount
+    pub configs : AllByRecursion (λ (o : OpenCall). o.taken.at.config ≡ config) state.opened
+    pub looks : All (λ (u : Key × Record). IsOfLook start log config.implicit_dirs u.0 u.1) (past_of state.ended).seen
 
   open_has : (lane : ℕ) (os : List OpenCall) → AllByRecursion (λ (o : OpenCall). o.taken.at.config ≡ config) os → IfSome (open_of os lane) (λ (o : OpenCall). o.taken.at.config ≡ config)
   open_has lane [] all = tt
@@ -125,7 +125,7 @@ module _ (config : Config) (start : BucketState) (log : List LogEvent) where
   turns_know stays state [] follows knows = knows
   turns_know stays state (turn ∷ turns) follows knows = turns_know stays (after_turn config start log state turn) turns follows.1 (turn_knows stays state turn follows.0 knows)
 
-  reached_knows : KeepsMount config start log → (turns : Account) → IsAccount config start log turns → KnowsLooks (reached config start log turns)
+  pub reached_knows : KeepsMount config start log → (turns : Account) → IsAccount config start log turns → KnowsLooks (reached config start log turns)
   reached_knows stays turns is = turns_know stays first_journal turns is.follows (record { mount = IsMount-first; configs = tt; looks = All-nil (OfLook start log config.implicit_dirs) })
 
   -- a record that lives in the list of an account
@@ -136,7 +136,7 @@ module _ (config : Config) (start : BucketState) (log : List LogEvent) where
       ((keeps_up_at config start log turns told).shown key r (live_record_is (records_at config start log turns) key now lifetime r lives).0)
 
 -- what is observed at a moment has that moment
-moment_told : (start : BucketState) (log : List LogEvent) (moment : ℕ) (seen : Observed) → observed_at start log moment ≡ Some seen → seen.moment ≡ moment
+pub moment_told : (start : BucketState) (log : List LogEvent) (moment : ℕ) (seen : Observed) → observed_at start log moment ≡ Some seen → seen.moment ≡ moment
 moment_told start log moment seen is = by (event_at log moment) (answer_at start log moment) is
   where
     by : (found : Option LogEvent) (answer : Option Answer)

@@ -21,8 +21,9 @@ use Rattle.mount_rules.specs.Dispatch.{plan, rules_of, view_in, wants}
 use Rattle.mount_rules.specs.Rules.{AtTake}
 use Rattle.record_spec.specs.Laws.{MayHappen}
 use Rattle.record_spec.specs.RecordList.{RecordList}
+use Rattle.thrift_spec.proofs.InParts.{records_after_turn}
 use Rattle.thrift_spec.specs.Files.{files_after_turn, files_filled, wholes_read}
-use Rattle.thrift_spec.specs.Records.{AreTold, IsToldBy, act_at, act_of, found_in, list_after_items, list_by}
+use Rattle.thrift_spec.specs.Records.{AllTold, AreTold, IsToldBy, act_at, act_of, found_in, list_after_items, list_by}
 use Rattle.thrift_spec.specs.Thrift.{AllThrifty, EndsThrifty, IsFillOf, IsThrifty, IsThriftyTurn, Kept, ReadsAre, ThriftyFrom, fit, kept_after_turn, kept_after_turns, none_kept, reads_of, with_lane}
 use Rattle.thrift_spec.specs.OneCall.{KeptOver}
 
@@ -124,11 +125,12 @@ module _ (config : Config) (start : BucketState) (one other : List LogEvent) (up
   -- ---- along an account
   pub record KeptStays (state : JournalState) (kept : Kept) (turns : Account) : Type 0 where
     pub thrifty : ThriftyFrom config start one state kept turns → ThriftyFrom config start other state kept turns
+    pub told : AllTold config start one state kept.records turns → AllTold config start other state kept.records turns
     pub keeps : kept_after_turns config start other state kept turns ≡ kept_after_turns config start one state kept turns
 
   pub kept_stays : (state : JournalState) (kept : Kept) (turns : Account) → Follows config start one state turns → (after_turns config start one state turns).front ≤ upto
       → KeptStays state kept turns
-  kept_stays state kept [] follows within = record { thrifty = λ t. tt; keeps = refl }
+  kept_stays state kept [] follows within = record { thrifty = λ t. tt; told = λ t. tt; keeps = refl }
   kept_stays state kept (turn ∷ turns) follows within =
       with_first (kept_stays (after_turn config start one state turn) (kept_after_turn config start one state kept turn) turns follows.1 within)
     where
@@ -154,6 +156,13 @@ module _ (config : Config) (start : BucketState) (one other : List LogEvent) (up
           subst (λ k. ThriftyFrom config start other (after_turn config start other state turn) k turns) kept_is
               (subst (λ s. ThriftyFrom config start other s (kept_after_turn config start one state kept turn) turns) state_is (later.thrifty t.2)),
         );
+        told = λ t. (
+          told_turn_same state kept turn here follows.0.next t.0,
+          subst (λ list. AllTold config start other (after_turn config start other state turn) list turns)
+              (ap (λ (k : Kept). k.records) kept_is ∙ records_after_turn config start other state kept turn)
+              (subst (λ s. AllTold config start other s (kept_after_turn config start one state kept turn).records turns) state_is
+              (later.told (subst (λ list. AllTold config start one (after_turn config start one state turn) list turns) (sym (records_after_turn config start one state kept turn)) t.1))),
+        );
         keeps = ap (λ s. kept_after_turns config start other s (kept_after_turn config start other state kept turn) turns) (sym state_is)
             ∙ (ap (λ k. kept_after_turns config start other (after_turn config start one state turn) k turns) (sym kept_is)
             ∙ later.keeps);
@@ -163,4 +172,4 @@ pub kept_over_longer : (config : Config) (start : BucketState) (log more : List 
     → KeptOver config start log (log ++ more) turns
 kept_over_longer config start log more turns is =
     let stays = kept_stays config start log (log ++ more) (length log) (sym (take-append-le (length log) log more (omega arith))) first_journal (none_kept config) turns is.follows is.within in
-    record { thrifty = stays.thrifty; keeps = stays.keeps }
+    record { thrifty = stays.thrifty; told = stays.told; keeps = stays.keeps }

@@ -1,24 +1,27 @@
 -- One call more of a mount that has none under way: what is kept once it is taken, and once it is done; and when its end is
 -- thrifty. And an account over another log.
+use Rattle.std.specs.List.{AllByRecursion}
 use Rattle.std.specs.Option.{option_map_or}
-use Rattle.std.specs.Prelude.{◌≡◌, ℕ, Bool, List, [], ◌∷◌, ◌++◌, IfSome, length}
+use Rattle.std.specs.Prelude.{◌≡◌, ◌≤◌, ℕ, Bool, List, [], ◌∷◌, ◌++◌, IfSome, length}
 use Rattle.bucket_api.specs.BucketState.{BucketState}
 use Rattle.bucket_api.specs.LogEvent.{LogEvent}
 use Rattle.bucket_api.specs.Operation.{Operation}
 use Rattle.cache_spec.specs.KeptFiles.{KeptFiles, used}
-use Rattle.history_spec.specs.Account.{Account, Item, looked}
+use Rattle.history_spec.specs.Account.{Account, Item, looked, moment_of, recalled}
 use Rattle.history_spec.specs.JournalState.{JournalState, OpenCall, reached}
 use Rattle.history_spec.specs.Laws.{done_of, take_of}
-use Rattle.history_spec.specs.Observing.{seen_by}
+use Rattle.history_spec.specs.Observing.{observed_at, seen_by}
+use Rattle.history_spec.specs.Pasts.{key_of}
+use Rattle.mount_model.specs.Observing.{Observed}
 use Rattle.mount_model.specs.declared.config.Config.{Config}
 use Rattle.mount_model.specs.declared.journal.Fill.{Fill}
 use Rattle.mount_model.specs.declared.journal.How.{How}
 use Rattle.mount_rules.specs.Dispatch.{plan, rules_of, view_in, wants}
 use Rattle.mount_rules.specs.Plans.{Wanted}
 use Rattle.record_spec.specs.Laws.{MayHappen}
-use Rattle.record_spec.specs.RecordList.{RecordList}
+use Rattle.record_spec.specs.RecordList.{RecordList, known_to}
 use Rattle.thrift_spec.specs.Files.{files_filled, key_wanted, wholes_read}
-use Rattle.thrift_spec.specs.Records.{act_at, found_in, list_after_items, list_by}
+use Rattle.thrift_spec.specs.Records.{RecordsAreTold, act_at, found_in, list_after_items, list_by, records_at}
 use Rattle.thrift_spec.specs.Thrift.{AllThrifty, IsFillOf, IsThriftyAccount, Kept, ReadsAre, fit, kept_at, reads_of, with_lane}
 
 -- ---- in closed form
@@ -59,6 +62,15 @@ module _ (implicit : Bool) (start : BucketState) (log : List LogEvent) (clock : 
   OwnAreTold list [] = Unit {0}
   OwnAreTold list (item ∷ items) = IsToldOwn list item × OwnAreTold (list_by implicit start log clock list (act_at implicit start log clock list item)) items
 
+-- ---- uses
+-- a record that served is no newer than what this list knows of its key
+abbrev pub IsKnown : RecordList → Item → Observed → Type 0
+IsKnown list (recalled moment) seen = moment ≤ known_to list (key_of seen.op)
+IsKnown list item seen = Unit {0}
+
+abbrev pub AllKnown : BucketState → List LogEvent → RecordList → List Item → Type 0
+AllKnown start log list items = AllByRecursion (λ item. IfSome (observed_at start log (moment_of item)) (IsKnown list item)) items
+
 -- ---- its end
 -- The end of a call is thrifty, by what was kept before its take; and its own looks are told by their flags.
 pub record EndsWell (config : Config) (start : BucketState) (log : List LogEvent) (state : JournalState) (kept : Kept) (o : OpenCall) (h : How) (items : List Item) (fill : Fill) : Type 0 where
@@ -75,8 +87,18 @@ pub record KeepsCall (config : Config) (start : BucketState) (log more : List Lo
   pub thrifty : IsThriftyAccount config start log turns → EndsWell config start (log ++ more) (reached config start log turns) (kept_at config start log turns) o h items fill
       → IsThriftyAccount config start (log ++ more) (turns ++ take_of o ∷ done_of o (length (log ++ more)) h items fill ∷ [])
 
+-- The record list at the end of the account with the call; and flags tell all still, where those of its own looks do, and what
+-- it used is no newer than what was known before its take.
+pub record ListsCall (config : Config) (start : BucketState) (log more : List LogEvent) (turns : Account) (o : OpenCall) (h : How) (items : List Item) (fill : Fill) : Type 0 where
+  pub lists : records_at config start (log ++ more) (turns ++ take_of o ∷ done_of o (length (log ++ more)) h items fill ∷ [])
+      ≡ list_after_items config.implicit_dirs start (log ++ more) o.clock (records_taken config (reached config start log turns) (records_at config start log turns) o) items
+  pub told : RecordsAreTold config start log turns → AllKnown start (log ++ more) (records_at config start log turns) items
+      → OwnAreTold config.implicit_dirs start (log ++ more) o.clock (records_taken config (reached config start log turns) (records_at config start log turns) o) items
+      → RecordsAreTold config start (log ++ more) (turns ++ take_of o ∷ done_of o (length (log ++ more)) h items fill ∷ [])
+
 -- ---- over another log
 -- all that is kept along the account is the same over the other log, and its thrift
 pub record KeptOver (config : Config) (start : BucketState) (log other : List LogEvent) (turns : Account) : Type 0 where
   pub thrifty : IsThriftyAccount config start log turns → IsThriftyAccount config start other turns
+  pub told : RecordsAreTold config start log turns → RecordsAreTold config start other turns
   pub keeps : kept_at config start other turns ≡ kept_at config start log turns
