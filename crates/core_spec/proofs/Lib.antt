@@ -16,6 +16,7 @@ pub mod Taking
 pub mod Thrifts
 pub mod TicketEnds
 pub mod TicketMounts
+pub mod TicketRecalls
 pub mod TicketSteps
 pub mod Ticking
 pub mod UnderWay

@@ -1,5 +1,5 @@
 -- The laws of tickets, as statements: each is under way from its take on, by what its pass sees, by each operation and to its end.
-use Rattle.std.specs.Prelude.{◌≡◌, ◌+◌, ℕ, All, Bool, true, false, List, [], ◌∷◌, ◌++◌, length}
+use Rattle.std.specs.Prelude.{◌≡◌, ◌+◌, ◌≤◌, ℕ, All, Bool, true, false, List, [], ◌∷◌, ◌++◌, length, Some}
 use Rattle.bucket_api.specs.LogEvent.{LogEvent}
 use Rattle.bucket_api.specs.Moments.{moment_at}
 use Rattle.bucket_api.specs.Passes.{LogGoesOn, PassState}
@@ -7,10 +7,12 @@ use Rattle.core_spec.specs.Cores.{CoreState, Tells, come_to, kept_by}
 use Rattle.core_spec.specs.Takes.{IsTakenOn}
 use Rattle.core_spec.specs.Tickets.{IsOf, IsUnderWay, NotEnded, TicketState, call_of, first_ticket, how_of, reads_to_make, seen_so_far}
 use Rattle.fuse_requests.specs.declared.request.Request.{Request}
-use Rattle.history_spec.specs.Account.{Account, Item}
+use Rattle.history_spec.specs.Account.{Account, Item, recalled}
 use Rattle.history_spec.specs.Claims.{plan_taken}
 use Rattle.history_spec.specs.Fits.{EndsBy, HasWalked, MayTell, ended_in}
 use Rattle.history_spec.specs.Laws.{IsOwnAt, shown_by}
+use Rattle.history_spec.specs.Looks.{IsLook, MayRecall}
+use Rattle.history_spec.specs.Observing.{observed_at}
 use Rattle.lane_spec.specs.Numbers.{has}
 use Rattle.mount_model.specs.Journal.{Entry}
 use Rattle.mount_model.specs.Observing.{Observed}
@@ -56,6 +58,14 @@ module _ (I : Type 0) where
       → IsOwnAt (moment_at (length before)) item → MayTell (call_of t way.told) event.op item
       → IsThrifty t.core.pass.origin.start (before ++ event ∷ []) (call_of t way.told) (kept_by t.core way.told).records item (shown_by t.core.pass.origin.start before event)
       → HasGoneOn t (with_log t (before ++ event ∷ []) mine faults) way (way.items ++ item ∷ []) (seen_so_far t way.items ++ shown_by t.core.pass.origin.start before event ∷ [])
+
+  -- a record that was found at its take serves a look that the plan allows next, also behind operations of its own: nothing is made
+  abbrev pub TicketsRecall : Type 0
+  TicketsRecall = (t : TicketState (PassState I)) (moment : ℕ) (seen : Observed) (way : IsUnderWay t)
+      → t.ended ≡ false → observed_at t.core.pass.origin.start t.core.pass.seen moment ≡ Some seen → moment ≤ length t.core.pass.seen
+      → Allows (plan_taken (call_of t way.told).taken (answers_of (seen_so_far t way.items))) seen.op → IsLook seen.op → MayRecall (call_of t way.told) seen.op moment
+      → IsThrifty t.core.pass.origin.start t.pass.seen (call_of t way.told) (kept_by t.core way.told).records (recalled moment) seen
+      → HasGoneOn t t way (way.items ++ recalled moment ∷ []) (seen_so_far t way.items ++ seen ∷ [])
 
   -- it has nothing left to do where its plan may end and all reads are made, or where memory was refused to it and it may be short
   abbrev pub TicketsStop : Type 0

@@ -27,12 +27,14 @@ pub fn beside_laws()
 {}
 
 /// What holds of the ticket of a call over any bucket: it is under way from its take on; it stays so by what its pass sees of
-/// others; it goes on by each operation that its plan allows next and that is thrifty; it has nothing left to do where its plan
-/// may end, or where it may be short; and it is of the mount that its take left, while no call of its lane is done.
+/// others; it goes on by each operation that its plan allows next and that is thrifty, and by each look that a record serves which
+/// was found at its take; it has nothing left to do where its plan may end, or where it may be short; and it is of the mount that
+/// its take left, while no call of its lane is done.
 pub fn ticket_laws<B: Bucket>()
     ensures begins { tickets.TicketsBegin B.Identity }
     ensures sees { tickets.TicketsSee B.Identity }
     ensures makes { tickets.TicketsMake B.Identity }
+    ensures recalls { tickets.TicketsRecall B.Identity }
     ensures stops { tickets.TicketsStop B.Identity }
     ensures its { tickets.TicketsAreOf B.Identity }
     ensures stays { tickets.TicketsStayOf B.Identity }

@@ -1,5 +1,6 @@
 -- The laws of tickets.
 use Rattle.core_spec.proofs.TicketMounts.{tickets_are_of, tickets_stay_of}
+use Rattle.core_spec.proofs.TicketRecalls.{tickets_recall}
 use Rattle.core_spec.proofs.TicketSteps.{tickets_begin, tickets_make, tickets_see, tickets_stop}
 use Rattle.core_spec.proofs.laws.ticket_laws.Goals as goal
 
@@ -11,6 +12,9 @@ returns-clause-sees g c = tickets_see g.B.Bucket.Identity
 
 pub returns-clause-makes : goal.returns-clause-makes
 returns-clause-makes g c = tickets_make g.B.Bucket.Identity
+
+pub returns-clause-recalls : goal.returns-clause-recalls
+returns-clause-recalls g c = tickets_recall g.B.Bucket.Identity
 
 pub returns-clause-stops : goal.returns-clause-stops
 returns-clause-stops g c = tickets_stop g.B.Bucket.Identity
