@@ -27,3 +27,5 @@ mod SetTimes
 mod StepLemmas
 mod ToldLemmas
 mod WalkLemmas
+pub mod CountedLemmas
+mod ThriftServes

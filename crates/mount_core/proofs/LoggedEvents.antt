@@ -1,5 +1,6 @@
 -- One event of a request on a bucket with its log: what it was answered, and what an item tells of it.
-use Rattle.std.proofs.Common.{◌≡◌, ◌+◌, ℕ, Bool, true, false, List, [], ◌∷◌, ◌++◌, Option, Some, None, length, refl, sym, ap, subst, ◌∙◌, ◌⊎◌, inl, inr, arith, append_assoc, append-nil, length-append}
+use Rattle.std.proofs.Common.{◌≡◌, ◌+◌, ℕ, Bool, true, false, List, [], ◌∷◌, ◌++◌, Option, Some, None, length, refl, sym, ap, subst, ◌∙◌, ◌⊎◌, inl, inr, arith, append_assoc, append-nil, length-append, take}
+use Rattle.std.proofs.lemmas.List.{take-append-le}
 use Rattle.std.proofs.lemmas.List.Elements.{All-append, All-cons, All-nil}
 use Rattle.std.specs.List.{AllByRecursion, cons_option}
 use Rattle.bucket_api.proofs.LogLaws.{IsBucket-state_at, answer_at-pushed}
@@ -15,11 +16,12 @@ use Rattle.bucket_api.specs.declared.events.Mode.{Mode}
 use Rattle.bucket_api.specs.declared.events.Mode.TheVariants as modes
 use Rattle.history_laws.proofs.Moments.{Told, told_at}
 use Rattle.history_spec.proofs.WalkLaws.{walk_begins, walk_goes_on}
-use Rattle.history_spec.specs.Account.{Item, moment_of}
+use Rattle.history_spec.proofs.Agreeing.{observed_same}
+use Rattle.history_spec.specs.Account.{Item, moment_of, recalled}
 use Rattle.history_spec.specs.Fits.{HasWalked, MayTell, Supplies, items_left}
 use Rattle.history_spec.specs.JournalState.{OpenCall}
 use Rattle.history_spec.specs.Laws.{IsOwnAt, WalkedOn, shown_by}
-use Rattle.history_spec.specs.Looks.{IsLook}
+use Rattle.history_spec.specs.Looks.{IsLook, MayRecall}
 use Rattle.history_spec.specs.Observing.{observed_at, seen_by}
 use Rattle.logged_bucket.specs.LoggedState.{LoggedState}
 use Rattle.logged_bucket.specs.Logging.{MakesEvent, next_event}
@@ -27,12 +29,16 @@ use Rattle.mount_core.proofs.HarmlessLemmas.{answer_fits}
 use Rattle.mount_core.proofs.PageKeys.{answer_told}
 use Rattle.mount_core.proofs.StepLemmas.{fits_read}
 use Rattle.mount_core.specs.Courses.{Asks, AsksRead, AsksStep, FitsAnswer}
-use Rattle.mount_core.specs.Logged.{CanRead, HasMade, IsOfBucket, IsPlain, bucket_now, item_of, seen_of}
+use Rattle.mount_core.specs.Logged.{CanRead, HasMade, IsOfBucket, ServesLook, bucket_now, item_of, seen_of}
 use Rattle.mount_core.specs.declared.course.Ask.{Ask}
 use Rattle.mount_core.specs.declared.course.Ask.TheVariants as ask
 use Rattle.mount_core.specs.declared.course.Course.{Course}
 use Rattle.mount_core.specs.declared.course.Stage.{Stage}
 use Rattle.mount_core.specs.declared.course.Stage.TheVariants.{Reading}
+use Rattle.mount_kept.specs.Recalls.{found_for}
+use Rattle.mount_kept.specs.Takings.{GoesBy}
+use Rattle.mount_kept.specs.declared.recall.Found.{Found}
+use Rattle.mount_kept.specs.declared.recall.Recall.{Recall}
 use Rattle.mount_laws.proofs.Keeping.{same_Some}
 use Rattle.mount_model.specs.Observing.{Observed}
 use Rattle.mount_rules.specs.Dispatch.{plan}
@@ -40,6 +46,8 @@ use Rattle.mount_rules.specs.Laws.{IsAnswerTo, Planned}
 use Rattle.mount_rules.specs.Mount.{MountModel}
 use Rattle.mount_rules.specs.Plans.{Allows, Plan, Walks, answers_of, plan_after}
 use Rattle.plan_names.specs.Errands.{IsTold}
+use Rattle.thrift_spec.proofs.RecalledWalks.{walk_recalls}
+use Rattle.thrift_spec.specs.Recalls.{RecallsOn}
 
 -- ---- what it was answered
 pub event_answer : (lane : ℕ) (op : Operation) (logged left : LoggedState) (moment : ℕ) (answer : Answer) → MakesEvent lane op logged left moment answer
@@ -125,10 +133,10 @@ item_own : (looks : Bool) (moment at : ℕ) → moment ≡ at → IsOwnAt at (it
 item_own true moment at is = ap Some is
 item_own false moment at is = ap Some is
 
-plain_on : (items : List Item) → AllByRecursion IsPlain items → (looks : Bool) (moment : ℕ) → AllByRecursion IsPlain (items ++ item_of looks moment ∷ [])
-plain_on [] plain true moment = (refl, tt)
-plain_on [] plain false moment = (tt, tt)
-plain_on (item ∷ items) plain looks moment = (plain.0, plain_on items plain.1 looks moment)
+-- it goes by what is left, where nothing was found of the operation
+pub goes_made : (found : Found) (looks : Bool) (moment : ℕ) (seen : Observed) → found_for found seen.op ≡ None → GoesBy found (item_of looks moment) seen
+goes_made found true moment seen none = none
+goes_made found false moment seen none = tt
 
 -- ---- what was seen
 -- what holds of whatever a log tells of a moment holds of all that is seen
@@ -169,7 +177,6 @@ module _ (mount : MountModel) (before : LoggedState) (o : OpenCall) (front : o.f
     more = [];
     log = ap (λ (events : List LogEvent). record before { log = events }) (sym nothing);
     own = All-nil (λ (e : LogEvent). e.lane ≡ o.call.lane);
-    plain = tt;
     walk = walk_begins before.start before.log way o front;
   }
     where
@@ -214,7 +221,6 @@ module _ (mount : MountModel) (before : LoggedState) (o : OpenCall) (front : o.f
         log = left_is;
         own = All-append (λ (e : LogEvent). e.lane ≡ o.call.lane) h.more (event ∷ []) h.own
             (All-cons (λ (e : LogEvent). e.lane ≡ o.call.lane) event [] (sym lane_is) (All-nil (λ (e : LogEvent). e.lane ≡ o.call.lane)));
-        plain = plain_on items h.plain looks moment;
         walk = subst (λ (events : List LogEvent). HasWalked before.start events way o (length events) (items ++ item_of looks moment ∷ [])) (sym log_is) on.walk;
       };
       saw = ap (λ (events : List LogEvent). seen_by before.start events (items ++ item_of looks moment ∷ [])) log_is ∙ on.seen
@@ -224,3 +230,34 @@ module _ (mount : MountModel) (before : LoggedState) (o : OpenCall) (front : o.f
         on : WalkedOn before.start mid.log event way o items (item_of looks moment)
         on = walk_goes_on before.start mid.log event way o items (item_of looks moment) (omega (arith, front, long)) h.walk (sym lane_is) allowed
             (item_own looks moment (moment_at (length mid.log)) (event_moment lane op mid left moment answer made_it)) (item_tells o op looks moment look other)
+
+  -- what it saw by a record that serves
+  module _ (mid : LoggedState) (items : List Item) (h : HasMade mount before mid o items) (op : Operation) (r : Recall)
+      (serves : ServesLook mount before o (answers_of (seen_of before mid items)) op r) (allowed : Allows (way (answers_of (seen_of before mid items))) op) where
+    log_mid : mid.log ≡ before.log ++ h.more
+    log_mid = ap (λ (s : LoggedState). s.log) h.log
+
+    still : observed_at before.start mid.log r.moment ≡ Some serves.observed
+    still =
+        observed_same before.start mid.log before.log (length before.log)
+        (ap (take (length before.log)) log_mid ∙ take-append-le (length before.log) before.log h.more (omega arith)) r.moment serves.within
+        ∙ serves.is
+
+    long_mid : length mid.log ≡ length before.log + length h.more
+    long_mid = ap length log_mid ∙ length-append before.log h.more
+
+    recalls_on : RecallsOn before.start mid.log way o (length mid.log) items r.moment serves.observed
+    recalls_on = walk_recalls before.start mid.log way o (length mid.log) items r.moment serves.observed h.walk still (omega (arith, serves.within, long_mid))
+        (subst (Allows (way (answers_of (seen_of before mid items)))) (sym serves.op_is) allowed) (subst IsLook (sym serves.op_is) serves.look)
+        (subst (λ (x : Operation). MayRecall o x r.moment) (sym serves.op_is) serves.may)
+
+    pub made_recalled : MadeOn mid mid items (recalled r.moment) serves.observed
+    made_recalled = record {
+      made = record { more = h.more; log = h.log; own = h.own; walk = recalls_on.walk };
+      saw = recalls_on.saw;
+    }
+
+    pub observed_so : serves.observed ≡ record { op = op; moment = r.moment; answer = serves.observed.answer }
+    observed_so =
+        ap (λ n. record { op = serves.observed.op; moment = n; answer = serves.observed.answer }) (told_at before.start before.log r.moment serves.observed serves.is).at
+        ∙ ap (λ (x : Operation). record { op = x; moment = r.moment; answer = serves.observed.answer }) serves.op_is

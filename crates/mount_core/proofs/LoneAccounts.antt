@@ -29,8 +29,9 @@ use Rattle.mount_model.specs.Journal.{Entry}
 use Rattle.mount_model.specs.declared.config.Config.{Config}
 use Rattle.mount_model.specs.declared.journal.Fill.TheVariants as fill
 use Rattle.mount_model.specs.declared.journal.How.{How}
-use Rattle.mount_model.specs.declared.journal.Use.{Use}
 use Rattle.mount_rules.specs.Overlap.{opened_at}
+use Rattle.thrift_spec.specs.Records.{RecordsAreTold, records_at}
+use Rattle.thrift_spec.specs.Thrift.{AllThrifty}
 
 -- ---- one account
 -- what tells all of it is one
@@ -183,18 +184,26 @@ module _ (lone : LoneState) (told : Account) (tells : Tells lone told) (o : Open
       pub reached_after : come_to after (told ++ take_of o ∷ end ∷ []) ≡ left
       reached_after = added.reaches
 
-      pub calls_so : All (λ (u : Use). (u.own ≡ true) × (u.kept ≡ false)) (uses_of items) → (answer : Reply) → answer ≡ reply_by lone.start (lone.log ++ more) before.mount o h items → Calls lone told o.call o.taken.request answer after
-      calls_so looks answer answered = record {
+      pub calls_so : (answer : Reply) → answer ≡ reply_by lone.start (lone.log ++ more) before.mount o h items
+          → AllThrifty lone.start (lone.log ++ more) o (records_at lone.config lone.start lone.log told) items
+          → RecordsAreTold lone.config lone.start (lone.log ++ more) (told ++ take_of o ∷ done_of o (length (lone.log ++ more)) h items fill.Nothing ∷ [])
+          → Calls lone told o.call o.taken.request answer after
+      calls_so answer answered looks flags = record {
         more = more;
         how = h;
         uses = uses_of items;
         fill = fill.Nothing;
         own = own;
-        looks = looks;
         unfilled = refl;
         left = refl;
         account = told ++ take_of o ∷ end ∷ [];
         tells = told_after;
+        taken = o;
+        items = items;
+        is = refl;
+        takes = taken;
+        looks = looks;
+        flags = flags;
         ended = ended_by lone.start (lone.log ++ more) before.mount o h items;
         is_call = refl;
         answered = sym answered;

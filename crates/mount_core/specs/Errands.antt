@@ -1,5 +1,5 @@
 -- What a request has to do on the bucket: nothing, an errand on names or on a file, or the flush of a frozen copy.
-use Rattle.std.specs.Prelude.{◌≡◌, ◌≢◌, ◌≤◌, ℕ, Bool, List, [], Option, None, IfSome, length}
+use Rattle.std.specs.Prelude.{◌≡◌, ◌≢◌, ◌≤◌, ◌∷◌, ℕ, Bool, List, [], Option, None, IfSome, length}
 use Rattle.bucket_api.specs.Metadata.{KeysRise}
 use Rattle.bucket_api.specs.Names.{IsObjectName}
 use Rattle.bucket_api.specs.Operation.{max_content}
@@ -9,13 +9,14 @@ use Rattle.mount_core.specs.declared.errand.Errand.{Errand}
 use Rattle.mount_core.specs.declared.errand.Errand.TheVariants.{Nothing, Names, Files, Flush}
 use Rattle.mount_rules.specs.Plans.{Contents, Plan, Step, Wanted, done, without_reads}
 use Rattle.mount_rules.specs.Requests.Opendir as opendir
+use Rattle.object_names.specs.Paths.{dir_prefix_of}
 use Rattle.object_names.specs.declared.shown.DirItem.{DirItem}
 use Rattle.plan_files.specs.Errands as files
 use Rattle.plan_files.specs.declared.errand.FileErrand.{FileErrand}
 use Rattle.plan_files.specs.declared.errand.FileErrand.TheVariants as file
 use Rattle.plan_names.specs.Errands as names
 use Rattle.plan_names.specs.Errands.{Asked}
-use Rattle.plan_names.specs.declared.errand.NameErrand.TheVariants.{Opendir}
+use Rattle.plan_names.specs.declared.errand.NameErrand.TheVariants.{Lookup, Opendir, Rename}
 use Rattle.staged_file.specs.Frozen.{FrozenFile, frozen_content, frozen_wanted}
 use Rattle.staged_file.specs.Sources.{range_of}
 use Rattle.staging_spec.specs.Wanted.{Range}
@@ -52,6 +53,14 @@ abbrev pub wanted_of : Errand → Option Wanted
 wanted_of (Files errand) = files.wanted_of errand
 wanted_of (Flush errand frozen) = files.wanted_of errand
 wanted_of errand = None
+
+-- ---- its keys
+-- the keys of which it looks for records, in order
+abbrev pub keys_of : Errand → List (List ℕ)
+keys_of (Names (Lookup path suffix implicit)) = dir_prefix_of path ∷ path ∷ []
+keys_of (Names (Rename from to suffix implicit)) = dir_prefix_of from ∷ []
+keys_of (Files (file.Attr name)) = name ∷ []
+keys_of errand = []
 
 -- ---- its parts
 -- a flush of a frozen copy: the errand may be asked, it wants what the copy lacks, and the copy is no longer than a

@@ -1,5 +1,5 @@
 -- The mount on one thread that keeps its log and its journal: what contracts see of it, and what each of its calls adds.
-use Rattle.std.specs.Prelude.{◌≡◌, ℕ, ◌+◌, true, false, All, Contains, length, List, [], ◌∷◌, ◌++◌}
+use Rattle.std.specs.Prelude.{◌≡◌, ℕ, ◌+◌, All, Contains, length, List, [], ◌∷◌, ◌++◌}
 use Rattle.bucket_api.specs.BucketState.{BucketState, IsBucket}
 use Rattle.bucket_api.specs.Log.{FollowsScript, scripted_mode}
 use Rattle.bucket_api.specs.LogEvent.{LogEvent}
@@ -10,10 +10,11 @@ use Rattle.fuse_replies.specs.declared.reply.Reply.{Reply}
 use Rattle.fuse_requests.specs.declared.request.Request.{Request}
 use Rattle.history_laws.specs.Apart.{OneByOne}
 use Rattle.history_spec.specs.Account as account
-use Rattle.history_spec.specs.Account.{Account, journal_of}
+use Rattle.history_spec.specs.Account.{Account, Item, journal_of}
 use Rattle.history_spec.specs.Fits.{IsAccount, ended_in}
-use Rattle.history_spec.specs.JournalState.{EndedCall, JournalState, reached}
+use Rattle.history_spec.specs.JournalState.{EndedCall, JournalState, OpenCall, reached}
 use Rattle.history_spec.specs.Lanes.{IsCovered}
+use Rattle.history_spec.specs.Laws.{IsTaken, done_of, take_of}
 use Rattle.history_spec.specs.Looks.{lanes_of}
 use Rattle.mount_model.specs.Configs.{IsConfig}
 use Rattle.mount_model.specs.Journal as journal
@@ -24,6 +25,8 @@ use Rattle.mount_model.specs.declared.journal.Fill.{Fill}
 use Rattle.mount_model.specs.declared.journal.Fill.TheVariants as fills
 use Rattle.mount_model.specs.declared.journal.How.{How}
 use Rattle.mount_model.specs.declared.journal.Use.{Use}
+use Rattle.thrift_spec.specs.Records.{RecordsAreTold, records_at}
+use Rattle.thrift_spec.specs.Thrift.{AllThrifty}
 
 -- The settings; the bucket before its log, and the script of its faults; the log; and the journal.
 pub record LoneState : Type 0 where
@@ -68,15 +71,16 @@ pub record HasNext (lone : LoneState) (call : CallId) : Type 0 where
   pub next : call.index ≡ ended_in (come_to lone account) call.lane + 1
   pub covered : IsCovered lone.log (come_to lone account) call.lane
 
--- One more call: behind the log stands what it made, all of its lane; behind the journal its take and its end, with its own
--- looks. No record of a look is kept, and no file. Its account is told, and it is the latest that ended, with its reply.
+-- One more call: behind the log stands what it made, all of its lane; behind the journal its take and its end, with its looks.
+-- No file is kept. Its account is told, and it is the latest that ended, with its reply. It was taken where the account stood; it
+-- looked a name up itself only where no record of it lived at its take, and each record that served it was found there; and the
+-- flags of the account say what the record list made of what was seen.
 pub record Calls (before : LoneState) (told : Account) (call : CallId) (request : Request) (reply : Reply) (after : LoneState) : Type 0 where
   pub more : List LogEvent
   pub how : How
   pub uses : List Use
   pub fill : Fill
   pub own : All (λ e. e.lane ≡ call.lane) more
-  pub looks : All (λ (u : Use). (u.own ≡ true) × (u.kept ≡ false)) uses
   pub unfilled : fill ≡ fills.Nothing
   pub left : after ≡ record before {
     log = before.log ++ more;
@@ -84,6 +88,12 @@ pub record Calls (before : LoneState) (told : Account) (call : CallId) (request 
   }
   pub account : Account
   pub tells : Tells after account
+  pub taken : OpenCall
+  pub items : List Item
+  pub is : account ≡ told ++ take_of taken ∷ done_of taken (length (before.log ++ more)) how items fill ∷ []
+  pub takes : IsTaken before.config before.start before.log (come_to before told) taken
+  pub looks : AllThrifty before.start (before.log ++ more) taken (records_at before.config before.start before.log told) items
+  pub flags : RecordsAreTold before.config before.start (before.log ++ more) account
   pub ended : EndedCall
   pub is_call : ended.call ≡ call
   pub answered : ended.reply ≡ reply

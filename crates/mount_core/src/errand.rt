@@ -5,11 +5,11 @@ ghost use Rattle.dir_listing.specs.Pages.{with_pages};
 ghost use Rattle.file_metadata.specs.FileMetadata.{last_second};
 ghost use Rattle.fuse_requests.specs.Grammar.{without_spare};
 ghost use Rattle.bucket_api.specs.Operation.{operation, IsAllowed};
-ghost use Rattle.mount_core.specs.Errands.{plan_of, plan_over, wanted_of, AsksAs, HasAsked, HoldsEntries, IsErrand, IsListing, IsWalked};
+ghost use Rattle.mount_core.specs.Errands.{keys_of, plan_of, plan_over, wanted_of, AsksAs, HasAsked, HoldsEntries, IsErrand, IsListing, IsWalked};
 ghost use Rattle.mount_core.specs.Metadatas.{GivesMetadata};
 ghost use Rattle.mount_model.specs.Configs.{IsConfig};
 ghost use Rattle.mount_model.specs.Observing.{next_step, Observed};
-ghost use Rattle.mount_rules.specs.Dispatch.{early, is_full, plan, wants};
+ghost use Rattle.mount_rules.specs.Dispatch.{early, is_full, plan, rules_of, view_in, wants};
 ghost use Rattle.mount_rules.specs.Files.{FilesAreShort};
 ghost use Rattle.mount_rules.specs.Mount.{IsMount};
 ghost use Rattle.mount_rules.specs.Plans.{answers_of, done};
@@ -70,6 +70,7 @@ impl Errand {
         requires fits { is_full config.now mount.now.mount (without_spare request.now) ≡ false }
         ensures plan { IfOk result (λ errand. (at : AtTake) → at.config ≡ config.now → at.second ≡ second → AsksAs (plan_over errand at.contents at.second) (plan at mount.now.mount (without_spare request.now))) }
         ensures wanted { IfOk result (λ errand. wanted_of errand ≡ wants config.now mount.now.mount (without_spare request.now)) }
+        ensures keys { IfOk result (λ errand. keys_of errand ≡ (rules_of (without_spare request.now)).keys (view_in mount.now.mount (without_spare request.now))) }
         ensures errand { IfOk result IsErrand }
         ensures entries { IfOk result (λ errand. (seen : List Observed) (items : List DirItem) → HoldsEntries errand config.now.implicit_dirs (answers_of seen) items → Fills config.now mount.now.mount (without_spare request.now) seen items) }
     {

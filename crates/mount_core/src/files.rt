@@ -1,10 +1,10 @@
 //! The errands of requests on files.
-ghost use Rattle.std.specs.Prelude.{◌≡◌, ◌≤◌, ◌+◌, ℕ, List, None, IfOk, IsSome, length};
+ghost use Rattle.std.specs.Prelude.{◌≡◌, ◌≤◌, ◌+◌, ℕ, List, [], None, IfOk, IsSome, length};
 ghost use Rattle.std.specs.FinMap as fin;
 ghost use Rattle.bucket_api.specs.Operation.{max_content};
 ghost use Rattle.file_metadata.specs.FileMetadata.{last_second};
 ghost use Rattle.inode_spec.specs.Inodes.{file_of};
-ghost use Rattle.mount_core.specs.Errands.{plan_of, plan_over, wanted_of, AsksAs, IsErrand};
+ghost use Rattle.mount_core.specs.Errands.{keys_of, plan_of, plan_over, wanted_of, AsksAs, IsErrand};
 ghost use Rattle.mount_core.specs.Metadatas.{GivesMetadata};
 ghost use Rattle.mount_rules.specs.Files.{FilesAreShort};
 ghost use Rattle.mount_rules.specs.Requests.Flush as flushing;
@@ -31,6 +31,7 @@ use std::alloc::Global;
 pub(crate) fn ask(alloc: Global, mount: &Mount, node: u64) -> Result<Errand, NoMemory>
     ensures plan { IfOk result (λ errand. (content : List ℕ) (second : ℕ) → AsksAs (plan_of errand content second) (standing.plan (standing.asked_name (view_of mount.now.mount (at_file node))))) }
     ensures wanted { IfOk result (λ errand. wanted_of errand ≡ None) }
+    ensures keys { IfOk result (λ errand. keys_of errand ≡ standing.keys (view_of mount.now.mount (at_file node))) }
     ensures errand { IfOk result IsErrand }
 {
     if mount.staging().len(node).is_some() {
@@ -58,6 +59,7 @@ pub(crate) fn read(
     requires short { FilesAreShort mount.now.mount }
     requires there { IsSome (file_of mount.now.mount.table node) }
     ensures plan { IfOk result (λ errand. (content : List ℕ) (second : ℕ) → (view : View) → AsksAs (plan_of errand content second) (reading.plan view)) }
+    ensures keys { IfOk result (λ errand. keys_of errand ≡ []) }
     ensures wanted { IfOk result (λ errand. wanted_of errand ≡ reading.wanted first size (fin.get mount.now.mount.staged node) (sight_at mount.now.mount.table node)) }
     ensures errand { IfOk result IsErrand }
 {
@@ -106,6 +108,7 @@ pub(crate) fn write(
     requires there { IsSome (file_of mount.now.mount.table node) }
     requires range { first + length bytes.now ≤ max_content }
     ensures plan { IfOk result (λ errand. (content : List ℕ) (second : ℕ) → (view : View) → AsksAs (plan_of errand content second) (writing.plan view)) }
+    ensures keys { IfOk result (λ errand. keys_of errand ≡ []) }
     ensures wanted { IfOk result (λ errand. wanted_of errand ≡ writing.wanted first bytes.now (fin.get mount.now.mount.staged node) (sight_at mount.now.mount.table node)) }
     ensures errand { IfOk result IsErrand }
 {
@@ -133,6 +136,7 @@ pub(crate) fn flush(alloc: Global, mount: &Mount, node: u64) -> Result<Errand, N
     requires there { IsSome (file_of mount.now.mount.table node) }
     requires metadata { GivesMetadata mount.now.mount }
     ensures plan { IfOk result (λ errand. (at : AtTake) (fh : ℕ) → AsksAs (plan_over errand at.contents at.second) (flushing.plan (record { at = at; view = view_of mount.now.mount (flushing.looks node fh) }))) }
+    ensures keys { IfOk result (λ errand. keys_of errand ≡ []) }
     ensures wanted { IfOk result (λ errand. (fh : ℕ) → wanted_of errand ≡ flushing.wanted (view_of mount.now.mount (flushing.looks node fh))) }
     ensures errand { IfOk result IsErrand }
 {
@@ -181,6 +185,7 @@ pub(crate) fn set(
     requires free { setting.refusal (asked_of asked.now) (view_of mount.now.mount (at_file node)) ≡ None }
     ensures plan { IfOk result (λ errand. (content : List ℕ) → AsksAs (plan_of errand content second) (setting.plan_by (asked_of asked.now) second (view_of mount.now.mount (at_file node)) (setting.change_in (asked_of asked.now) (view_of mount.now.mount (at_file node))))) }
     ensures wanted { IfOk result (λ errand. wanted_of errand ≡ None) }
+    ensures keys { IfOk result (λ errand. keys_of errand ≡ setting.keys_by (view_of mount.now.mount (at_file node)) (setting.change_in (asked_of asked.now) (view_of mount.now.mount (at_file node)))) }
     ensures errand { IfOk result IsErrand }
 {
     match mount.change(node, asked) {
@@ -203,6 +208,7 @@ fn touch(
     requires change { setting.change_in (asked_of asked.now) (view_of mount.now.mount (at_file node)) ≡ setting.set_time }
     ensures plan { IfOk result (λ errand. (content : List ℕ) → AsksAs (plan_of errand content second) (setting.plan_by (asked_of asked.now) second (view_of mount.now.mount (at_file node)) setting.set_time)) }
     ensures wanted { IfOk result (λ errand. wanted_of errand ≡ None) }
+    ensures keys { IfOk result (λ errand. keys_of errand ≡ []) }
     ensures errand { IfOk result IsErrand }
 {
     let Some(inode) = mount.nodes().get(node) else {

@@ -2,7 +2,7 @@
 ghost use Rattle.std.specs.Prelude.{◌≡◌, ℕ, List, [], ◌∷◌, None, IfOk, true};
 ghost use Rattle.std.specs.Str.{is_utf8};
 ghost use Rattle.bucket_api.specs.Metadata.{KeysRise};
-ghost use Rattle.mount_core.specs.Errands.{plan_of, wanted_of, IsErrand};
+ghost use Rattle.mount_core.specs.Errands.{keys_of, plan_of, wanted_of, IsErrand};
 ghost use Rattle.mount_rules.specs.Making as making;
 ghost use Rattle.mount_rules.specs.Requests.Create as create;
 ghost use Rattle.mount_rules.specs.Requests.Mkdir as mkdir;
@@ -30,6 +30,7 @@ pub(crate) fn make_file(
 ) -> Result<Errand, NoMemory>
     requires { create.refusal name.now (view_of mount.now.mount (at_node node)) ≡ None }
     ensures wanted { IfOk result (λ errand. wanted_of errand ≡ None) }
+    ensures keys { IfOk result (λ errand. keys_of errand ≡ []) }
     ensures plan { IfOk result (λ errand. (content : List ℕ) (second : ℕ) → plan_of errand content second ≡ making.plan (create.path_of name.now (view_of mount.now.mount (at_node node))) [] second) }
     ensures errand { IfOk result IsErrand }
 {
@@ -46,6 +47,7 @@ pub(crate) fn make_link(
 ) -> Result<Errand, NoMemory>
     requires { symlink.refusal name.now target.now (view_of mount.now.mount (at_node node)) ≡ None }
     ensures wanted { IfOk result (λ errand. wanted_of errand ≡ None) }
+    ensures keys { IfOk result (λ errand. keys_of errand ≡ []) }
     ensures plan { IfOk result (λ errand. (content : List ℕ) (second : ℕ) → plan_of errand content second ≡ making.plan (create.path_of name.now (view_of mount.now.mount (at_node node))) (symlink.target_pair target.now ∷ []) second) }
     ensures errand { IfOk result IsErrand }
 {
@@ -62,6 +64,7 @@ pub(crate) fn make_directory(
 ) -> Result<Errand, NoMemory>
     requires { mkdir.refusal name.now (view_of mount.now.mount (at_node node)) ≡ None }
     ensures wanted { IfOk result (λ errand. wanted_of errand ≡ None) }
+    ensures keys { IfOk result (λ errand. keys_of errand ≡ []) }
     ensures plan { IfOk result (λ errand. (content : List ℕ) (second : ℕ) → plan_of errand content second ≡ making.plan (mkdir.prefix_of name.now (view_of mount.now.mount (at_node node))) [] second) }
     ensures errand { IfOk result IsErrand }
 {
@@ -83,6 +86,7 @@ fn make(
     requires free { create.refusal name.now (view_of mount.now.mount (at_node node)) ≡ None }
     requires ordered { KeysRise pairs.items }
     ensures wanted { IfOk result (λ errand. wanted_of errand ≡ None) }
+    ensures keys { IfOk result (λ errand. keys_of errand ≡ []) }
     ensures plan { IfOk result (λ errand. (content : List ℕ) (second : ℕ) → plan_of errand content second ≡ making.plan (create.path_of name.now (view_of mount.now.mount (at_node node))) pairs.items second) }
     ensures errand { IfOk result IsErrand }
 {

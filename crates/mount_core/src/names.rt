@@ -1,13 +1,13 @@
 //! The errands of a look-up and of a listing, and the paths of names.
-ghost use Rattle.std.specs.Prelude.{◌≡◌, ◌≤◌, ℕ, List, None, IfOk, IfSome};
+ghost use Rattle.std.specs.Prelude.{◌≡◌, ◌≤◌, ◌∷◌, ℕ, List, [], None, IfOk, IfSome};
 ghost use Rattle.bucket_api.specs.declared.answers.Answer.{Answer};
-ghost use Rattle.mount_core.specs.Errands.{plan_of, wanted_of, HoldsEntries, IsErrand};
+ghost use Rattle.mount_core.specs.Errands.{keys_of, plan_of, wanted_of, HoldsEntries, IsErrand};
 ghost use Rattle.mount_rules.specs.Guards as guards;
 ghost use Rattle.mount_rules.specs.Requests.Lookup as lookup;
 ghost use Rattle.mount_rules.specs.Requests.Opendir as opendir;
 ghost use Rattle.mount_rules.specs.Rules.{at_node};
 ghost use Rattle.mount_rules.specs.View.{sight_at, view_of};
-ghost use Rattle.object_names.specs.Paths.{has_suffix, IsPath};
+ghost use Rattle.object_names.specs.Paths.{dir_prefix_of, has_suffix, IsPath};
 ghost use Rattle.object_names.specs.declared.shown.DirItem.{DirItem};
 
 use crate::errand::Errand;
@@ -28,6 +28,7 @@ pub(crate) fn look_up(
 ) -> Result<Errand, NoMemory>
     requires { lookup.refusal name.now (view_of mount.now.mount (at_node node)) ≡ None }
     ensures wanted { IfOk result (λ errand. wanted_of errand ≡ None) }
+    ensures keys { IfOk result (λ errand. keys_of errand ≡ dir_prefix_of (lookup.path_of name.now (view_of mount.now.mount (at_node node))) ∷ lookup.path_of name.now (view_of mount.now.mount (at_node node)) ∷ []) }
     ensures plan { IfOk result (λ errand. (content : List ℕ) (second : ℕ) → plan_of errand content second ≡ lookup.plan config.now.implicit_dirs (lookup.path_of name.now (view_of mount.now.mount (at_node node))) (has_suffix name.now)) }
     ensures errand { IfOk result IsErrand }
 {
@@ -50,6 +51,7 @@ pub(crate) fn list(
     requires page { 1 ≤ config.now.list_page }
     requires free { opendir.refusal (view_of mount.now.mount (at_node node)) ≡ None }
     ensures wanted { IfOk result (λ errand. wanted_of errand ≡ None) }
+    ensures keys { IfOk result (λ errand. keys_of errand ≡ []) }
     ensures plan { IfOk result (λ errand. (content : List ℕ) (second : ℕ) → plan_of errand content second ≡ opendir.plan (opendir.prefix_of (view_of mount.now.mount (at_node node))) config.now.list_page None) }
     ensures errand { IfOk result IsErrand }
     ensures entries { IfOk result (λ errand. (told : List Answer) (items : List DirItem) → HoldsEntries errand config.now.implicit_dirs told items → IfSome (opendir.entries (opendir.prefix_of (view_of mount.now.mount (at_node node))) config.now.implicit_dirs told) (λ entries. items ≡ entries)) }

@@ -1,6 +1,6 @@
 //! The errands of requests that take a name away from an object.
-ghost use Rattle.std.specs.Prelude.{◌≡◌, ℕ, List, None, IfOk};
-ghost use Rattle.mount_core.specs.Errands.{plan_of, wanted_of, IsErrand};
+ghost use Rattle.std.specs.Prelude.{◌≡◌, ◌∷◌, ℕ, List, [], None, IfOk, if◌then◌else◌};
+ghost use Rattle.mount_core.specs.Errands.{keys_of, plan_of, wanted_of, IsErrand};
 ghost use Rattle.mount_laws.specs.Renames.{renamed};
 ghost use Rattle.mount_rules.specs.Requests.Mkdir as mkdir;
 ghost use Rattle.mount_rules.specs.Requests.Rename as rename;
@@ -9,6 +9,7 @@ ghost use Rattle.mount_rules.specs.Requests.Unlink as unlink;
 ghost use Rattle.mount_rules.specs.Rules.{at_node, AtTake};
 ghost use Rattle.mount_rules.specs.View.{view_of};
 ghost use Rattle.mount_state.specs.Moving.{moving_view};
+ghost use Rattle.object_names.specs.Paths.{dir_prefix_of};
 
 use crate::errand::Errand;
 use crate::names::path_of;
@@ -28,6 +29,7 @@ pub(crate) fn unlink(
 ) -> Result<Errand, NoMemory>
     requires { unlink.refusal name.now (view_of mount.now.mount (at_node node)) ≡ None }
     ensures wanted { IfOk result (λ errand. wanted_of errand ≡ None) }
+    ensures keys { IfOk result (λ errand. keys_of errand ≡ []) }
     ensures plan { IfOk result (λ errand. (content : List ℕ) (second : ℕ) → plan_of errand content second ≡ unlink.plan (unlink.path_of name.now (view_of mount.now.mount (at_node node)))) }
     ensures errand { IfOk result IsErrand }
 {
@@ -45,6 +47,7 @@ pub(crate) fn remove_directory(
 ) -> Result<Errand, NoMemory>
     requires { mkdir.refusal name.now (view_of mount.now.mount (at_node node)) ≡ None }
     ensures wanted { IfOk result (λ errand. wanted_of errand ≡ None) }
+    ensures keys { IfOk result (λ errand. keys_of errand ≡ []) }
     ensures plan { IfOk result (λ errand. (content : List ℕ) (second : ℕ) → plan_of errand content second ≡ rmdir.plan (mkdir.prefix_of name.now (view_of mount.now.mount (at_node node)))) }
     ensures errand { IfOk result IsErrand }
 {
@@ -65,6 +68,7 @@ pub(crate) fn rename(
 ) -> Result<Errand, NoMemory>
     requires { rename.refusal (renamed newdir name.now newname.now) (moving_view mount.now.mount node (renamed newdir name.now newname.now)) ≡ None }
     ensures wanted { IfOk result (λ errand. wanted_of errand ≡ None) }
+    ensures keys { IfOk result (λ errand. keys_of errand ≡ (if rename.is_same (renamed newdir name.now newname.now) (moving_view mount.now.mount node (renamed newdir name.now newname.now)) then [] else dir_prefix_of (rename.from_of (renamed newdir name.now newname.now) (moving_view mount.now.mount node (renamed newdir name.now newname.now))) ∷ [])) }
     ensures plan { IfOk result (λ errand. (at : AtTake) → at.config ≡ config.now → (content : List ℕ) → plan_of errand content at.second ≡ rename.plan (renamed newdir name.now newname.now) (record { at = at; view = moving_view mount.now.mount node (renamed newdir name.now newname.now) })) }
     ensures errand { IfOk result IsErrand }
 {

@@ -3,13 +3,15 @@
 //! of such objects.
 mod ask;
 mod beside;
+mod faults;
 mod journal;
+mod lone;
 mod naming;
 mod staged;
 mod steps;
 mod told;
 
-ghost use Rattle.std.specs.Prelude.{◌<◌, ◌+◌, ◌^◌, IfOk, OnOk};
+ghost use Rattle.std.specs.Prelude.{◌<◌, ◌+◌, ◌-◌, ◌^◌, IfOk, OnOk};
 ghost use Rattle.bucket_api.specs.BucketState.{IsWithin};
 ghost use Rattle.bucket_api.specs.Metadata.{KeysRise};
 
@@ -65,7 +67,7 @@ pub(crate) fn no_pairs(alloc: Global) -> Row<Pair>
 
 /// A bucket that holds these objects.
 pub(crate) fn holding<R: Abort + AllocGlobal>(rt: &R, names: &[&str]) -> Result<Plain, NoMemory>
-    ensures { IfOk result (λ bucket. IsWithin (2 ^ 62) bucket) }
+    ensures { IfOk result (λ bucket. IsWithin (2 ^ 62 - 1) bucket) }
 {
     assert!(rt; names.len() < 1000);
     let mut bucket = Plain::new(rt.alloc());

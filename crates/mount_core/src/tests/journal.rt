@@ -1,209 +1,53 @@
 //! What a mount tells of itself: its log and its journal, after calls of one lane, a writer beside them, and seconds that
-//! pass; and what faults do that a script sets.
-ghost use Rattle.std.specs.Prelude.{◌≡◌, ◌+◌, IfOk, OnOk, OnErr};
-ghost use Rattle.bucket_api.specs.Operation.{operation, IsAllowed};
-ghost use Rattle.bucket_api.specs.Scripts.{script_of, IsScript};
-ghost use Rattle.mount_core.specs.Lones.{HasNext, HasNoCall};
-
-use crate::Lone;
-use crate::tests::ask::Ask::{self, Flush, Init, Lookup, Mkdir, Open, Read, Rename, Write};
-use crate::tests::no_pairs;
-use crate::tests::steps::Step;
-use crate::tests::told::Told::{
-    Agreed, Content, Directory, Done, Errno, File, Fresh, Opened, Wrote,
+//! pass.
+use crate::tests::ask::Ask::{
+    Create, Getattr, Init, Lookup, Mkdir, Open, Read, Rename, Rmdir, Unlink,
 };
-use crate::tests::told::{Told, shows};
-use bucket_api::{Event, Mode, Op, Scripted, allowed};
-use bucket_plain::Plain;
-use fuse_replies::Reply;
-use fuse_replies::errno::ENOMEM;
-use io_ports::{Bytes, NoMemory, Row, Text};
-use mount_model::{CallId, Config, Fill, How, JournalEntry, Use};
-use std::alloc::Global;
+use crate::tests::holding;
+use crate::tests::journal::Used::{Kept, Recalled};
+use crate::tests::lone::Move::{self, Call, Put, Wait};
+use crate::tests::lone::{Setting, moved};
+use crate::tests::told::Told::{
+    Agreed, Attr, Content, Directory, Done, Errno, File, Fresh, Made, Opened,
+};
+use bucket_api::{Event, Mode, Op};
+use io_ports::{NoMemory, Row};
+use mount_model::{Fill, How, JournalEntry, Use};
 use std::process::Abort;
 use std::test::Fail;
-
-/// What happens.
-#[derive(Clone, Copy)]
-enum Move<'a> {
-    /// The next call of the lane 1.
-    Call(Step<'a>),
-    /// The writer of the lane 9 makes an object of five bytes, stamped with the second 7.
-    Put(&'a str),
-    /// So many seconds pass.
-    Wait(u64),
-}
 
 /// An entry of the journal.
 #[derive(Clone, Copy)]
 enum Line<'a> {
     /// The call of this index was taken at this front.
     Take(u64, u64),
-    /// It was done at this front, and looked names up itself at these moments.
-    Done(u64, u64, &'a [u64]),
+    /// It was done at this front, after these looks at names.
+    Done(u64, u64, &'a [Used]),
     /// At this front so many seconds passed.
     Tick(u64, u64),
 }
 
-/// A fault of a script: its moment, and whether the operation has its effect all the same.
-type Fault = (u64, bool);
-
-// ---- a mount
-/// A script of this fault.
-fn script_with<R: Abort + AllocGlobal>(rt: &R, fault: Fault) -> Result<Row<Scripted>, NoMemory>
-    ensures { IfOk result (λ script. IsScript (script_of script.items)) }
-{
-    let (moment, lost) = fault;
-    assert!(rt; moment > 0);
-    let mut script = Row::new(rt.alloc());
-    script.reserve(1)?;
-    let mode = if lost { Mode::Lost } else { Mode::Failed };
-    script.push(Scripted { moment, mode });
-    Ok(script)
+/// A look at a name, by its moment.
+#[derive(Clone, Copy)]
+enum Used {
+    /// The call's own, of which a record was kept.
+    Kept(u64),
+    /// A record served it.
+    Recalled(u64),
 }
 
-/// A mount over an empty bucket, with this script.
-fn mounted(alloc: Global, script: Row<Scripted>) -> Result<Lone, NoMemory>
-    requires { IsScript (script_of script.items) }
-    ensures next { IfOk result (λ lone. HasNext lone (record { lane = 1; index = 1 })) }
-    ensures beside { IfOk result (λ lone. HasNoCall lone 9) }
-{
-    Lone::new(alloc, &Config::new(), Plain::new(alloc), script)
+/// A mount, what happens to it, and the log and the journal that tell of it.
+struct Scene<'a> {
+    setting: Setting,
+    /// The objects in its bucket, of five bytes each.
+    names: &'a [&'a str],
+    moves: &'a [Move<'a>],
+    /// By lanes and operations, all done.
+    events: &'a [(u64, char)],
+    /// All of the lane 1.
+    entries: &'a [Line<'a>],
 }
 
-/// Does one move; the index of the next call.
-fn moves<R: Abort + AllocGlobal>(
-    rt: &R,
-    lone: &mut Lone,
-    index: u64,
-    one: Move<'_>,
-) -> Result<u64, NoMemory>
-    requires next { HasNext lone.old (record { lane = 1; index = index }) }
-    requires beside { HasNoCall lone.old 9 }
-    ensures next { IfOk result (λ after. HasNext lone.new (record { lane = 1; index = after })) }
-    ensures beside { OnOk result (HasNoCall lone.new 9) }
-{
-    match one {
-        Move::Call(step) => calls(rt, lone, index, step),
-        Move::Put(name) => puts(rt, lone, index, name),
-        Move::Wait(seconds) => waits(lone, index, seconds),
-    }
-}
-
-/// Sends the next request, and compares what it is told.
-fn calls<R: Abort + AllocGlobal>(
-    rt: &R,
-    lone: &mut Lone,
-    index: u64,
-    step: Step<'_>,
-) -> Result<u64, NoMemory>
-    requires next { HasNext lone.old (record { lane = 1; index = index }) }
-    requires beside { HasNoCall lone.old 9 }
-    ensures next { IfOk result (λ after. HasNext lone.new (record { lane = 1; index = after })) }
-    ensures beside { OnOk result (HasNoCall lone.new 9) }
-{
-    assert!(rt; index < 1000);
-    let reply = sends_again(rt.alloc(), lone, index, step.0)?;
-    if is_short(&reply) {
-        return Err(NoMemory);
-    }
-    assert!(rt; shows(&reply, step.1), "at call {index}");
-    Ok(index + 1)
-}
-
-/// The reply to the next request. Where memory is refused to it, it is sent once more, for nothing was added.
-fn sends_again(alloc: Global, lone: &mut Lone, index: u64, ask: Ask<'_>) -> Result<Reply, NoMemory>
-    requires next { HasNext lone.old (record { lane = 1; index = index }) }
-    requires beside { HasNoCall lone.old 9 }
-    ensures next { OnOk result (HasNext lone.new (record { lane = 1; index = index + 1 })) }
-    ensures beside { OnOk result (HasNoCall lone.new 9) }
-{
-    if let Ok(reply) = sends(alloc, lone, index, ask) {
-        return Ok(reply);
-    }
-    sends(alloc, lone, index, ask)
-}
-
-/// The reply to the next request.
-fn sends(alloc: Global, lone: &mut Lone, index: u64, ask: Ask<'_>) -> Result<Reply, NoMemory>
-    requires next { HasNext lone.old (record { lane = 1; index = index }) }
-    requires beside { HasNoCall lone.old 9 }
-    ensures next { OnOk result (HasNext lone.new (record { lane = 1; index = index + 1 })) }
-    ensures beside { OnOk result (HasNoCall lone.new 9) }
-    ensures err { OnErr result (lone.new ≡ lone.old) }
-{
-    let request = ask.request(alloc)?;
-    let reply = lone.call(alloc, CallId { lane: 1, index }, request)?;
-    Ok(reply)
-}
-
-/// Memory was refused to the call on its way.
-fn is_short(reply: &Reply) -> bool {
-    match reply {
-        Reply::Error(errno) => *errno == ENOMEM,
-        _ => false,
-    }
-}
-
-/// The writer beside the mount makes an object; the index of the next call.
-fn puts<R: Abort + AllocGlobal>(
-    rt: &R,
-    lone: &mut Lone,
-    index: u64,
-    name: &str,
-) -> Result<u64, NoMemory>
-    requires next { HasNext lone.old (record { lane = 1; index = index }) }
-    requires beside { HasNoCall lone.old 9 }
-    ensures next { IfOk result (λ after. HasNext lone.new (record { lane = 1; index = after })) }
-    ensures beside { OnOk result (HasNoCall lone.new 9) }
-{
-    let op = insert_of(rt, name)?;
-    lone.remote(rt.alloc(), 9, &op)?;
-    Ok(index)
-}
-
-/// So many seconds pass; the index of the next call.
-fn waits(lone: &mut Lone, index: u64, seconds: u64) -> Result<u64, NoMemory>
-    requires next { HasNext lone.old (record { lane = 1; index = index }) }
-    requires beside { HasNoCall lone.old 9 }
-    ensures next { IfOk result (λ after. HasNext lone.new (record { lane = 1; index = after })) }
-    ensures beside { OnOk result (HasNoCall lone.new 9) }
-{
-    lone.tick(seconds)?;
-    Ok(index)
-}
-
-/// The insert of an object of five bytes.
-fn insert_of<R: Abort + AllocGlobal>(rt: &R, name: &str) -> Result<Op, NoMemory>
-    ensures { IfOk result (λ op. IsAllowed (operation op)) }
-{
-    assert!(rt; allowed(name));
-    Ok(Op::Insert {
-        name: Text::of(rt.alloc(), name)?,
-        content: Bytes::of(rt.alloc(), b"hello")?,
-        pairs: no_pairs(rt.alloc()),
-        only: None,
-        stamp: 7,
-    })
-}
-
-/// Does all moves, one after the other, on a new mount with this script.
-fn moved<R: Abort + AllocGlobal>(
-    rt: &R,
-    script: Row<Scripted>,
-    all: &[Move<'_>],
-) -> Result<Lone, NoMemory>
-    requires { IsScript (script_of script.items) }
-{
-    let mut lone = mounted(rt.alloc(), script)?;
-    let mut index = 1;
-    for one in all {
-        index = moves(rt, &mut lone, index, *one)?;
-    }
-    Ok(lone)
-}
-
-// ---- what is told
 /// An operation by its first letter.
 fn letter(op: &Op) -> char {
     match op {
@@ -247,8 +91,8 @@ fn is_line(entry: &JournalEntry, line: Line<'_>) -> bool {
             uses,
             fill,
         } => {
-            matches!(line, Line::Done(index, at, moments) if call.lane == 1 && call.index == index && *front == at
-                && *how == How::Ok && *fill == Fill::Nothing && are_own(uses.as_slice(), moments))
+            matches!(line, Line::Done(index, at, used) if call.lane == 1 && call.index == index && *front == at
+                && *how == How::Ok && *fill == Fill::Nothing && are_used(uses.as_slice(), used))
         }
         JournalEntry::Tick { front, seconds } => {
             matches!(line, Line::Tick(at, passed) if *front == at && *seconds == passed)
@@ -256,148 +100,282 @@ fn is_line(entry: &JournalEntry, line: Line<'_>) -> bool {
     }
 }
 
-/// These are looks of a call's own, at these moments, and no record is kept.
-fn are_own(uses: &[Use], moments: &[u64]) -> bool {
-    uses.len() == moments.len()
-        && uses.iter().zip(moments).all(|(one, moment)| one.moment == *moment
-            && one.own
-            && !one.kept)
+/// Looks at names are these.
+fn are_used(uses: &[Use], expected: &[Used]) -> bool {
+    uses.len() == expected.len()
+        && uses
+            .iter()
+            .zip(expected)
+            .all(|(one, used)| is_used(*one, *used))
 }
 
-/// Two calls, a writer, seconds that pass, and calls behind them: a look-up asks for a directory and then for a file, an
-/// open asks once more, and a read is an event that is no look.
-const TOLD: &[Move<'static>] = &[
-    Move::Call((Init, Agreed)),
-    Move::Call((Lookup(1, "f"), Errno(2))),
-    Move::Put("f"),
-    Move::Wait(5),
-    Move::Call((Lookup(1, "f"), File(2))),
-    Move::Call((Open(2), Opened(1))),
-    Move::Call((Read(2, 1, 0, 5), Content("hello"))),
-    Move::Call((Mkdir(1, "d"), Directory(3))),
-];
-
-/// Its log.
-const EVENTS: &[(u64, char)] = &[
-    (1, 's'),
-    (1, 's'),
-    (9, 'i'),
-    (1, 's'),
-    (1, 's'),
-    (1, 's'),
-    (1, 'r'),
-    (1, 'i'),
-];
-
-/// Its journal.
-const ENTRIES: &[Line<'static>] = &[
-    Line::Take(1, 0),
-    Line::Done(1, 0, &[]),
-    Line::Take(2, 0),
-    Line::Done(2, 2, &[1, 2]),
-    Line::Tick(3, 5),
-    Line::Take(3, 3),
-    Line::Done(3, 5, &[4, 5]),
-    Line::Take(4, 5),
-    Line::Done(4, 6, &[6]),
-    Line::Take(5, 6),
-    Line::Done(5, 7, &[]),
-    Line::Take(6, 7),
-    Line::Done(6, 8, &[]),
-];
+/// A look at a name is this one.
+fn is_used(one: Use, used: Used) -> bool {
+    match used {
+        Kept(moment) => one.moment == moment && one.own && one.kept,
+        Recalled(moment) => one.moment == moment && !one.own && !one.kept,
+    }
+}
 
 /// All that was done is told so.
-fn tells<R: Abort + AllocGlobal>(rt: &R) -> Result<(), NoMemory> {
-    let lone = moved(rt, Row::new(rt.alloc()), TOLD)?;
-    let (bucket, log, journal) = lone.finish();
-    assert_eq!(rt; bucket.last(), 2);
-    assert!(rt; has_events(log.as_slice(), EVENTS));
-    assert!(rt; has_entries(journal.as_slice(), ENTRIES));
+fn tells<R: Abort + AllocGlobal>(rt: &R, scene: &Scene<'_>) -> Result<(), NoMemory> {
+    let bucket = holding(rt, scene.names)?;
+    let lone = moved(rt, scene.setting, bucket, Row::new(rt.alloc()), scene.moves)?;
+    let (_bucket, log, journal) = lone.finish();
+    assert!(rt; has_events(log.as_slice(), scene.events));
+    assert!(rt; has_entries(journal.as_slice(), scene.entries));
     Ok(())
 }
+
+/// Records of ten seconds.
+const TEN: Setting = Setting {
+    lifetime: 10,
+    capacity: 1000,
+    implicit: false,
+};
+
+/// Two calls, a writer, seconds that pass, and calls behind them: a look-up asks for a directory and then for a file, and a
+/// record of nothing serves no more when its lifetime ends; it serves an open, a read is an event that is no look, and a
+/// new directory is made without one.
+const CALLS: Scene<'static> = Scene {
+    setting: TEN,
+    names: &[],
+    moves: &[
+        Call((Init, Agreed)),
+        Call((Lookup(1, "f"), Errno(2))),
+        Put("f"),
+        Wait(10),
+        Call((Lookup(1, "f"), File(2))),
+        Call((Open(2), Opened(1))),
+        Call((Read(2, 1, 0, 5), Content("hello"))),
+        Call((Mkdir(1, "d"), Directory(3))),
+    ],
+    events: &[
+        (1, 's'),
+        (1, 's'),
+        (9, 'i'),
+        (1, 's'),
+        (1, 's'),
+        (1, 'r'),
+        (1, 'i'),
+    ],
+    entries: &[
+        Line::Take(1, 0),
+        Line::Done(1, 0, &[]),
+        Line::Take(2, 0),
+        Line::Done(2, 2, &[Kept(1), Kept(2)]),
+        Line::Tick(3, 10),
+        Line::Take(3, 3),
+        Line::Done(3, 5, &[Kept(4), Kept(5)]),
+        Line::Take(4, 5),
+        Line::Done(4, 5, &[Recalled(5)]),
+        Line::Take(5, 5),
+        Line::Done(5, 6, &[]),
+        Line::Take(6, 6),
+        Line::Done(6, 7, &[]),
+    ],
+};
+
+/// Records serve until their lifetime ends, also where another writer has replaced the object meanwhile.
+const LIFETIMES: Scene<'static> = Scene {
+    setting: TEN,
+    names: &["f"],
+    moves: &[
+        Call((Init, Agreed)),
+        Call((Lookup(1, "f"), File(2))),
+        Put("f"),
+        Wait(9),
+        Call((Lookup(1, "f"), File(2))),
+        Wait(1),
+        Call((Lookup(1, "f"), File(3))),
+    ],
+    events: &[(1, 's'), (1, 's'), (9, 'i'), (1, 's'), (1, 's')],
+    entries: &[
+        Line::Take(1, 0),
+        Line::Done(1, 0, &[]),
+        Line::Take(2, 0),
+        Line::Done(2, 2, &[Kept(1), Kept(2)]),
+        Line::Tick(3, 9),
+        Line::Take(3, 3),
+        Line::Done(3, 3, &[Recalled(1), Recalled(2)]),
+        Line::Tick(3, 1),
+        Line::Take(4, 3),
+        Line::Done(4, 5, &[Kept(4), Kept(5)]),
+    ],
+};
+
+/// Without a lifetime each look is made anew, that of an open too.
+const NO_LIFETIME: Scene<'static> = Scene {
+    setting: Setting {
+        lifetime: 0,
+        capacity: 1000,
+        implicit: false,
+    },
+    names: &["f"],
+    moves: &[
+        Call((Init, Agreed)),
+        Call((Lookup(1, "f"), File(2))),
+        Call((Lookup(1, "f"), File(2))),
+        Call((Open(2), Opened(1))),
+    ],
+    events: &[(1, 's'), (1, 's'), (1, 's'), (1, 's'), (1, 's')],
+    entries: &[
+        Line::Take(1, 0),
+        Line::Done(1, 0, &[]),
+        Line::Take(2, 0),
+        Line::Done(2, 2, &[Kept(1), Kept(2)]),
+        Line::Take(3, 2),
+        Line::Done(3, 4, &[Kept(3), Kept(4)]),
+        Line::Take(4, 4),
+        Line::Done(4, 5, &[Kept(5)]),
+    ],
+};
+
+/// Where one record is kept, that of the directory and that of the file push each other out.
+const ONE_RECORD: Scene<'static> = Scene {
+    setting: Setting {
+        lifetime: 10,
+        capacity: 1,
+        implicit: false,
+    },
+    names: &["f"],
+    moves: &[
+        Call((Init, Agreed)),
+        Call((Lookup(1, "f"), File(2))),
+        Call((Lookup(1, "f"), File(2))),
+        Call((Lookup(1, "f"), File(2))),
+        Call((Getattr(2), Attr(2, 5, 1))),
+    ],
+    events: &[(1, 's'), (1, 's'), (1, 's'), (1, 's')],
+    entries: &[
+        Line::Take(1, 0),
+        Line::Done(1, 0, &[]),
+        Line::Take(2, 0),
+        Line::Done(2, 2, &[Kept(1), Kept(2)]),
+        Line::Take(3, 2),
+        Line::Done(3, 3, &[Kept(3), Recalled(2)]),
+        Line::Take(4, 3),
+        Line::Done(4, 4, &[Recalled(3), Kept(4)]),
+        Line::Take(5, 4),
+        Line::Done(5, 4, &[Recalled(4)]),
+    ],
+};
+
+/// A rename makes the records of both names go; a record serves its look at the directory, and its look at the object is its
+/// own. What is absent is recorded too.
+const RENAMED: Scene<'static> = Scene {
+    setting: TEN,
+    names: &["a", "b"],
+    moves: &[
+        Call((Init, Agreed)),
+        Call((Lookup(1, "a"), File(2))),
+        Call((Lookup(1, "b"), File(3))),
+        Call((Rename(1, "a", 1, "b"), Done)),
+        Call((Lookup(1, "b"), Fresh(4, 5))),
+        Call((Lookup(1, "a"), Errno(2))),
+        Call((Lookup(1, "a"), Errno(2))),
+    ],
+    events: &[
+        (1, 's'),
+        (1, 's'),
+        (1, 's'),
+        (1, 's'),
+        (1, 's'),
+        (1, 'c'),
+        (1, 'd'),
+        (1, 's'),
+        (1, 's'),
+    ],
+    entries: &[
+        Line::Take(1, 0),
+        Line::Done(1, 0, &[]),
+        Line::Take(2, 0),
+        Line::Done(2, 2, &[Kept(1), Kept(2)]),
+        Line::Take(3, 2),
+        Line::Done(3, 4, &[Kept(3), Kept(4)]),
+        Line::Take(4, 4),
+        Line::Done(4, 7, &[Recalled(1), Kept(5)]),
+        Line::Take(5, 7),
+        Line::Done(5, 8, &[Recalled(3), Kept(8)]),
+        Line::Take(6, 8),
+        Line::Done(6, 9, &[Recalled(1), Kept(9)]),
+        Line::Take(7, 9),
+        Line::Done(7, 9, &[Recalled(1), Recalled(9)]),
+    ],
+};
+
+/// Where directories are implicit, what is made or removed in one makes its record go too.
+const IMPLICIT: Scene<'static> = Scene {
+    setting: Setting {
+        lifetime: 10,
+        capacity: 1000,
+        implicit: true,
+    },
+    names: &[],
+    moves: &[
+        Call((Init, Agreed)),
+        Call((Mkdir(1, "d"), Directory(2))),
+        Call((Lookup(1, "d"), Directory(2))),
+        Call((Create(2, "f"), Made(3, 1))),
+        Call((Lookup(1, "d"), Directory(2))),
+        Call((Lookup(1, "d"), Directory(2))),
+        Call((Unlink(2, "f"), Done)),
+        Call((Rmdir(1, "d"), Done)),
+        Call((Lookup(1, "d"), Errno(2))),
+        Call((Lookup(1, "d"), Errno(2))),
+    ],
+    events: &[
+        (1, 'i'),
+        (1, 'l'),
+        (1, 'i'),
+        (1, 'l'),
+        (1, 'd'),
+        (1, 'l'),
+        (1, 'd'),
+        (1, 'l'),
+        (1, 's'),
+    ],
+    entries: &[
+        Line::Take(1, 0),
+        Line::Done(1, 0, &[]),
+        Line::Take(2, 0),
+        Line::Done(2, 1, &[]),
+        Line::Take(3, 1),
+        Line::Done(3, 2, &[Kept(2)]),
+        Line::Take(4, 2),
+        Line::Done(4, 3, &[]),
+        Line::Take(5, 3),
+        Line::Done(5, 4, &[Kept(4)]),
+        Line::Take(6, 4),
+        Line::Done(6, 4, &[Recalled(4)]),
+        Line::Take(7, 4),
+        Line::Done(7, 5, &[]),
+        Line::Take(8, 5),
+        Line::Done(8, 7, &[]),
+        Line::Take(9, 7),
+        Line::Done(9, 9, &[Kept(8), Kept(9)]),
+        Line::Take(10, 9),
+        Line::Done(10, 9, &[Recalled(8), Recalled(9)]),
+    ],
+};
 
 #[test]
 fn a_log_and_a_journal_tell_all_that_was_done(rt: HostRuntime) -> Result<(), Fail> {
-    tells(&rt)?;
+    tells(&rt, &CALLS)?;
     Ok(())
 }
-
-// ---- faults
-/// With one fault, all moves are told so, and by then so many generations were given and so many events made.
-fn fails<R: Abort + AllocGlobal>(
-    rt: &R,
-    fault: Fault,
-    all: &[Move<'_>],
-    expected: (u64, u64),
-) -> Result<(), NoMemory> {
-    let lone = moved(rt, script_with(rt, fault)?, all)?;
-    let (bucket, log, _journal) = lone.finish();
-    assert_eq!(rt;
-        (bucket.last(), log.len()),
-        expected,
-        "with a fault at {}",
-        fault.0
-    );
-    Ok(())
-}
-
-/// A fault at each operation of a RENAME of `f` to `g`: what look-ups of both are told then, the last generation, and how
-/// many events there are.
-const RENAMES: &[(Fault, Told<'static>, Told<'static>, (u64, u64))] = &[
-    ((4, false), File(2), Errno(2), (1, 8)),
-    ((4, true), File(2), Errno(2), (1, 8)),
-    ((5, false), File(2), Errno(2), (1, 9)),
-    ((5, true), File(2), Errno(2), (1, 9)),
-    ((6, false), File(2), Errno(2), (1, 10)),
-    ((6, true), File(2), Fresh(3, 5), (2, 10)),
-    ((7, false), File(2), Fresh(3, 5), (2, 11)),
-    ((7, true), Errno(2), Fresh(3, 5), (2, 11)),
-];
 
 #[test]
-fn a_rename_fails_at_each_of_its_operations(rt: HostRuntime) -> Result<(), Fail> {
-    for (fault, old, new, expected) in RENAMES {
-        let all = [
-            Move::Put("f"),
-            Move::Call((Init, Agreed)),
-            Move::Call((Lookup(1, "f"), File(2))),
-            Move::Call((Rename(1, "f", 1, "g"), Errno(5))),
-            Move::Call((Lookup(1, "f"), *old)),
-            Move::Call((Lookup(1, "g"), *new)),
-        ];
-        fails(&rt, *fault, &all, *expected)?;
-    }
+fn records_serve_while_they_live(rt: HostRuntime) -> Result<(), Fail> {
+    tells(&rt, &LIFETIMES)?;
+    tells(&rt, &NO_LIFETIME)?;
+    tells(&rt, &ONE_RECORD)?;
     Ok(())
 }
 
-/// A fault at the read of a WRITE, and at the insert of its flush: what the WRITE, its FLUSH and one more FLUSH are told, the
-/// last generation, and how many events there are.
-const FLUSHES: &[(
-    Fault,
-    Told<'static>,
-    Told<'static>,
-    Told<'static>,
-    (u64, u64),
-)] = &[
-    ((5, false), Errno(5), Done, Done, (1, 5)),
-    ((5, true), Errno(5), Done, Done, (1, 5)),
-    ((6, false), Wrote(1), Errno(5), Done, (2, 7)),
-    ((6, true), Wrote(1), Errno(5), Errno(116), (2, 7)),
-];
-
 #[test]
-fn a_flush_fails_at_each_of_its_operations(rt: HostRuntime) -> Result<(), Fail> {
-    for (fault, write, first, again, expected) in FLUSHES {
-        let all = [
-            Move::Put("f"),
-            Move::Call((Init, Agreed)),
-            Move::Call((Lookup(1, "f"), File(2))),
-            Move::Call((Open(2), Opened(1))),
-            Move::Call((Write(2, 1, 0, "H"), *write)),
-            Move::Call((Flush(2, 1), *first)),
-            Move::Call((Flush(2, 1), *again)),
-        ];
-        fails(&rt, *fault, &all, *expected)?;
-    }
+fn what_a_mount_writes_makes_records_go(rt: HostRuntime) -> Result<(), Fail> {
+    tells(&rt, &RENAMED)?;
+    tells(&rt, &IMPLICIT)?;
     Ok(())
 }

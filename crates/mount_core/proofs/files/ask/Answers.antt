@@ -1,6 +1,7 @@
 -- A file or symlink is asked for by its own name.
-use Rattle.std.proofs.Common.{◌≡◌, ℕ, rules, Some, None, List, Option, refl, sym, ap, subst, ◌∙◌}
+use Rattle.std.proofs.Common.{◌≡◌, ◌∷◌, [], ℕ, rules, Some, None, List, Option, refl, sym, ap, subst, ◌∙◌}
 use Rattle.std.specs.FinMap as fin
+use Rattle.std.specs.Option.{option_map_or}
 use Rattle.std.specs.Prelude.{is_some}
 use Rattle.bucket_api.specs.Names.{IsObjectName}
 use Rattle.mount_core.proofs.ErrandLemmas.{standing_reads}
@@ -27,5 +28,6 @@ returns c =
           standing_reads (Some c.in_ok-copy.field-0) answers
           ∙ ap (λ (name : Option (List ℕ)). without_reads (standing.plan name answers)) (ap Some (sym named) ∙ sym (asks_name mount c.args.node node there other unstaged));
       wanted = refl;
+      keys = ap (λ (name : List ℕ). name ∷ []) (sym named) ∙ ap (λ (found : Option (List ℕ)). option_map_or (λ name. name ∷ []) found []) (sym (asks_name mount c.args.node node there other unstaged));
       errand = (subst IsObjectName named (named_object mount c.args.node node there other c.nodes.ensures.valid), tt);
     }

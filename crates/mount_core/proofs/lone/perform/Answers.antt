@@ -8,7 +8,8 @@ use Rattle.mount_core.proofs.SerialLemmas.{free_early}
 use Rattle.mount_core.specs.LoneCalls.{Performs}
 use Rattle.mount_model.specs.declared.config.Config.{Config}
 use Rattle.mount_model.specs.declared.journal.How.TheVariants as how
-use Rattle.mount_model.specs.declared.journal.Use.{Use}
+use Rattle.io_ports.specs.RowItems.{RowItems}
+use Rattle.mount_kept.specs.declared.notes.Note.{Note}
 use Rattle.mount_rules.specs.Dispatch.{refused_at_take}
 use Rattle.mount_core.proofs.lone.perform.Goals as goal
 use Rattle.mount_core.proofs.lone.perform.Goals.{After-early}
@@ -23,9 +24,10 @@ told c = c.early.ensures.errno ∙ ap (λ (config : Config). refused_at_take con
 
 pub returns-in-Some-clause-ok : goal.returns-in-Some-clause-ok
 returns-in-Some-clause-ok c =
-    subst (λ (uses : List Use). Performs c.args.config.now c.args.second c.args.lane c.args.mount.now.mount c.args.bucket.now (without_spare c.args.request.now) (Error c.in-Some.errno) how.Ok uses c.args.mount.now.mount c.args.bucket.now)
-    (sym c.new.ensures.items)
-    (performed_refused c.args.config.now c.args.second c.args.lane c.args.mount.now.mount c.args.bucket.now (without_spare c.args.request.now) c.in-Some.errno
+    subst (λ (notes : List Note). Performs c.args.config.now c.args.clock c.args.lane c.args.mount.now.mount c.args.kept.now.records c.args.bucket.now (without_spare c.args.request.now) (Error c.in-Some.errno) how.Ok notes
+    c.args.mount.now.mount c.args.kept.now.records c.args.bucket.now)
+    (sym (ap (λ (n : RowItems Note). n.items) c.new.ensures))
+    (performed_refused c.args.config.now c.args.clock c.args.lane c.args.mount.now.mount c.args.kept.now.records c.args.bucket.now (without_spare c.args.request.now) c.in-Some.errno
     (sym (told (goal.at.returns-in-Some-clause-ok c).After-early) ∙ c.in-Some.is))
 
 pub returns-in-Some-clause-sendable : goal.returns-in-Some-clause-sendable

@@ -18,13 +18,13 @@ sound c =
 
 pub invariant_of-self-2 : goal.invariant_of-self-2
 invariant_of-self-2 c =
-    between_written c.self.inside.config c.self.inside.mount c.self.inside.bucket (entries c.self.inside.journal.items) c.self.inside.clock c.self.invariant c.args.lane
+    between_written c.self.inside.config c.self.inside.mount c.self.inside.kept.records c.self.inside.bucket (entries c.self.inside.journal.items) c.self.inside.clock c.self.invariant c.args.lane
     (operation c.in_ok-op.op) c.act.new.self (next_event c.self.inside.bucket c.args.lane (operation c.in_ok-op.op)) refl c.in_ok-act.ensures.ok.log (sound (goal.at.invariant_of-self-2 c).In_ok-act)
     (subst (λ (l : LoneState). HasNoCall l c.args.lane) (sym c.self.view_is) c.requires.beside)
 
 pub returns-clause-told : goal.returns-clause-told
 returns-clause-told c =
     subst (λ (l : LoneState). Writes l (lone_of c.self.inside.config c.act.new.self (entries c.self.inside.journal.items))) c.self.view_is
-    (writes_so c.self.inside.config c.self.inside.mount c.self.inside.bucket (entries c.self.inside.journal.items) c.self.inside.clock c.self.invariant c.args.lane
+    (writes_so c.self.inside.config c.self.inside.mount c.self.inside.kept.records c.self.inside.bucket (entries c.self.inside.journal.items) c.self.inside.clock c.self.invariant c.args.lane
     (operation c.in_ok-op.op) c.act.new.self (next_event c.self.inside.bucket c.args.lane (operation c.in_ok-op.op)) refl c.in_ok-act.ensures.ok.log (sound (goal.at.returns-clause-told c).In_ok-act)
     (subst (λ (l : LoneState). HasNoCall l c.args.lane) (sym c.self.view_is) c.requires.beside))

@@ -17,7 +17,7 @@ use Rattle.mount_rules.specs.OneThread.{RunState, at_state, contents_of, second_
 use Rattle.mount_rules.specs.Plans.{HoldsWanted, answers_of}
 use Rattle.mount_state.specs.Mounts.{MountState}
 use Rattle.mount_state.specs.Serving.{IsServedAt, Serves}
-use Rattle.mount_state.specs.Spares.{need}
+use Rattle.mount_state.specs.Spares.{Fills, need}
 use Rattle.mount_core.proofs.serial.Serial.perform.Goals as goal
 use Rattle.mount_core.proofs.serial.Serial.perform.Goals.{After-finish, After-forgo}
 
@@ -45,6 +45,13 @@ pub finish-requires-clause-short : goal.finish-requires-clause-short
 finish-requires-clause-short c =
     subst (λ (m : MountState). FilesAreShort m.mount) (sym c.in_ok-spare.ensures.room)
     (short_files c.self.invariant.run (record { config = c.self.inside.config; mount = c.self.inside.mount.mount; store = c.self.inside.store }) c.self.invariant.came)
+
+pub finish-requires-clause-items : goal.finish-requires-clause-items
+finish-requires-clause-items c =
+    let request = without_spare c.args.request.now in
+    subst (λ (m : MountState). Fills m.config m.mount request c.in-Ok.told.items c.carry_out.new.spare.items) (sym c.in_ok-spare.ensures.room)
+    (subst (λ (config : Config). Fills config c.self.inside.mount.mount request c.in-Ok.told.items c.carry_out.new.spare.items) (sym c.self.invariant.same)
+    (c.in_ok-errand.ensures.entries c.in-Ok.told.items c.carry_out.new.spare.items c.in-Ok.ensures.entries))
 
 pub finish-requires-clause-base : goal.finish-requires-clause-base
 finish-requires-clause-base c =

@@ -6,7 +6,7 @@ use Rattle.bucket_api.specs.Moments.{moment_at}
 use Rattle.bucket_api.specs.Operation.{Operation, operation}
 use Rattle.mount_core.proofs.LoneNext.{next_written, no_call_written}
 use Rattle.mount_core.specs.Lones.{LoneState}
-use Rattle.mount_core.proofs.tests.journal.puts.Goals as goal
+use Rattle.mount_core.proofs.tests.lone.puts.Goals as goal
 
 abbrev event_of : LoneState → Operation → LogEvent
 event_of lone op = record { lane = 9; op = op; mode = scripted_mode lone.script (moment_at (length lone.log)) }

@@ -3,7 +3,7 @@ use Rattle.std.proofs.Common.{arith}
 use Rattle.fuse_replies.specs.Replies.{without_spare as reply_without_spare}
 use Rattle.fuse_requests.specs.Grammar.{without_spare}
 use Rattle.mount_core.proofs.LoneNext.{next_called, no_call_called}
-use Rattle.mount_core.proofs.tests.journal.sends.Goals as goal
+use Rattle.mount_core.proofs.tests.lone.sends.Goals as goal
 
 pub returns-clause-next : goal.returns-clause-next
 returns-clause-next c =

@@ -1,6 +1,6 @@
 -- The next call may follow.
 use Rattle.mount_core.specs.Lones.{HasNext, HasNoCall}
-use Rattle.mount_core.proofs.tests.journal.moved.Given as goal
+use Rattle.mount_core.proofs.tests.lone.moved.Given as goal
 
 abbrev pub invariant-loop-one : goal.invariant-loop-one
 invariant-loop-one g l = record {

@@ -2,7 +2,7 @@
 use Rattle.std.proofs.Common.{subst, sym}
 use Rattle.mount_core.proofs.LoneNext.{no_call_ticked}
 use Rattle.mount_core.specs.Lones.{HasNoCall, LoneState}
-use Rattle.mount_core.proofs.tests.journal.waits.Goals as goal
+use Rattle.mount_core.proofs.tests.lone.waits.Goals as goal
 
 pub returns-clause-beside : goal.returns-clause-beside
 returns-clause-beside c =
