@@ -3,6 +3,7 @@ mod directories;
 mod ends;
 mod examples;
 mod files;
+mod kept;
 mod plays;
 mod streams;
 

@@ -13,7 +13,8 @@ struct Example<'a> {
 
 /// How do two names that conflict show?
 const FILE_BESIDE_DIRECTORY: Example<'static> = Example {
-    scenario: r#"{"objects": [{"name": "foo", "hex": "612066696c65"}, {"name": "foo/"}, {"name": "foo/in", "hex": "78"}],
+    scenario: r#"{"config": {"stat_lifetime": 0, "type_lifetime": 0},
+"objects": [{"name": "foo", "hex": "612066696c65"}, {"name": "foo/"}, {"name": "foo/in", "hex": "78"}],
 "phases": [
 [{"calls": [
 {"frame": "380000001a0000000100000000000000000000000000000000000000000000000000000000000000070000001f00000000000200ffffffff"}]}],
@@ -60,11 +61,11 @@ log 12 3 done stat 666f6f
 take 1.1 0
 done 1.1 0 ok
 take 2.1 0
-done 2.1 1 ok o1d
+done 2.1 1 ok o1k
 take 2.2 1
-done 2.2 3 ok o2d o3d
+done 2.2 3 ok o2k o3k
 take 2.3 3
-done 2.3 4 ok o4d
+done 2.3 4 ok o4k
 take 2.4 4
 done 2.4 5 ok
 take 2.5 5
@@ -80,7 +81,7 @@ done 3.1 8 ok
 take 3.2 8
 done 3.2 10 ok
 take 3.3 10
-done 3.3 12 ok o11d o12d
+done 3.3 12 ok o11k o12k
 end
 ",
 };
@@ -118,24 +119,25 @@ log 7 2 done stat 70686f746f73
 take 1.1 0
 done 1.1 0 ok
 take 2.1 0
-done 2.1 1 ok o1d
+done 2.1 1 ok o1k
 take 2.2 1
 done 2.2 2 ok
 take 2.3 2
 done 2.3 2 ok
 take 2.4 2
-done 2.4 4 ok o3d o4d
+done 2.4 4 ok o3k o4k
 take 2.5 4
 done 2.5 5 ok
 take 2.6 5
-done 2.6 7 ok o6d o7d
+done 2.6 7 ok o6k o7k
 end
 ",
 };
 
 /// What does a lost reply do to a flush?
 const LOST_FLUSH: Example<'static> = Example {
-    scenario: r#"{"faults": [{"moment": 2, "mode": "lost"}, {"moment": 9, "mode": "failed"}],
+    scenario: r#"{"config": {"stat_lifetime": 0, "type_lifetime": 0},
+"faults": [{"moment": 2, "mode": "lost"}, {"moment": 9, "mode": "failed"}],
 "phases": [
 [{"calls": [
 {"frame": "380000001a0000000100000000000000000000000000000000000000000000000000000000000000070000001f00000000000200ffffffff"}]}],
@@ -193,9 +195,9 @@ done 2.4 3 ok
 take 2.5 3
 done 2.5 3 ok
 take 2.6 3
-done 2.6 5 ok o4d o5d
+done 2.6 5 ok o4k o5k
 take 2.7 5
-done 2.7 6 ok o6d
+done 2.7 6 ok o6k
 take 2.8 6
 done 2.8 7 ok
 take 3.1 7
@@ -249,7 +251,7 @@ log 8 2 done list 70686f746f732f flat 2 -
 take 1.1 0
 done 1.1 0 ok
 take 2.1 0
-done 2.1 2 ok o1d o2d
+done 2.1 2 ok o1k o2k
 take 2.2 2
 done 2.2 3 ok
 take 2.3 3
@@ -257,7 +259,7 @@ done 2.3 3 ok
 take 2.4 3
 done 2.4 4 ok
 take 2.5 4
-done 2.5 6 ok o5d o6d
+done 2.5 6 ok o5k o6k
 take 2.6 6
 done 2.6 7 ok
 take 2.7 7
@@ -270,7 +272,8 @@ end
 
 /// Does an open see the last close?
 const OPEN_AFTER_CLOSE: Example<'static> = Example {
-    scenario: r#"{"phases": [
+    scenario: r#"{"config": {"stat_lifetime": 0, "type_lifetime": 0},
+"phases": [
 [{"calls": [
 {"frame": "380000001a0000000100000000000000000000000000000000000000000000000000000000000000070000001f00000000000200ffffffff"}]}],
 [{"calls": [
@@ -329,28 +332,89 @@ done 2.3 2 ok
 take 2.4 2
 done 2.4 2 ok
 take 3.1 2
-done 3.1 4 ok o3d o4d
+done 3.1 4 ok o3k o4k
 take 3.2 4
-done 3.2 5 ok o5d
+done 3.2 5 ok o5k
 take 3.3 5
 done 3.3 6 ok
 take 3.4 6
 done 3.4 6 ok
 take 5.1 7
-done 5.1 8 ok o8d
+done 5.1 8 ok o8k
 take 5.2 8
-done 5.2 10 ok o9d o10d
+done 5.2 10 ok o9k o10k
 take 5.3 10
-done 5.3 11 ok o11d
+done 5.3 11 ok o11k
 take 5.4 11
 done 5.4 12 ok
 end
 ",
 };
 
+/// How long may a look-up be stale?
+const RECORD_SERVES: Example<'static> = Example {
+    scenario: r#"{"config": {"stat_lifetime": 10, "type_lifetime": 10},
+"objects": [{"name": "f", "hex": "6f6c64"}],
+"phases": [
+[{"calls": [
+{"frame": "380000001a0000000100000000000000000000000000000000000000000000000000000000000000070000001f00000000000200ffffffff"}]}],
+[{"calls": [
+{"frame": "2a0000000100000001000000000000000100000000000000000000000000000000000000000000006600"},
+{"frame": "2a0000000100000002000000000000000100000000000000000000000000000000000000000000006600"}]}],
+[{"remote": [
+{"act": "write", "name": "f", "hex": "6e65776572"}]}],
+[{"calls": [
+{"frame": "300000000e00000001000000000000000000000000000000000000000000000000000000000000000000000000000000", "fix": [{"at": 16, "lane": 2, "call": 2, "take": "node"}]},
+{"frame": "500000000f000000020000000000000000000000000000000000000000000000000000000000000000000000000000000000000000000000100000000000000000000000000000000000000000000000", "fix": [{"at": 16, "lane": 2, "call": 2, "take": "node"}, {"at": 40, "lane": 4, "call": 1, "take": "fh"}]}]}],
+[{"clock": [
+10]}],
+[{"calls": [
+{"frame": "2a0000000100000001000000000000000100000000000000000000000000000000000000000000006600"},
+{"frame": "300000000e00000002000000000000000000000000000000000000000000000000000000000000000000000000000000", "fix": [{"at": 16, "lane": 6, "call": 1, "take": "node"}]},
+{"frame": "500000000f000000030000000000000000000000000000000000000000000000000000000000000000000000000000000000000000000000100000000000000000000000000000000000000000000000", "fix": [{"at": 16, "lane": 6, "call": 1, "take": "node"}, {"at": 40, "lane": 6, "call": 2, "take": "fh"}]}]}]
+]}
+"#,
+    history: "reply 1.1 50000000000000000100000000000000070000001f00000000000200210004000c0009000000020001000000000000000000000000000000000000000000000000000000000000000000000000000000
+reply 2.1 9000000000000000010000000000000002000000000000000000000000000000000000000000000000000000000000000000000000000000020000000000000003000000000000000100000000000000000000000000000000000000000000000000000000000000000000000000000000000000a4810000010000000000000000000000000000000010000000000000
+reply 2.2 9000000000000000020000000000000002000000000000000000000000000000000000000000000000000000000000000000000000000000020000000000000003000000000000000100000000000000000000000000000000000000000000000000000000000000000000000000000000000000a4810000010000000000000000000000000000000010000000000000
+reply 4.1 2000000000000000010000000000000001000000000000000000000000000000
+reply 4.2 100000008cffffff0200000000000000
+reply 6.1 9000000000000000010000000000000003000000000000000000000000000000000000000000000000000000000000000000000000000000030000000000000005000000000000000100000000000000000000000000000000000000000000000000000000000000000000000000000000000000a4810000010000000000000000000000000000000010000000000000
+reply 6.2 2000000000000000020000000000000002000000000000000000000000000000
+reply 6.3 150000000000000003000000000000006e65776572
+object 66 2 1 0 5 6e65776572 -
+log 1 2 done stat 662f
+log 2 2 done stat 66
+log 3 3 done insert 66 * 0 - 6e65776572
+log 4 4 done read 66 1 0 3
+log 5 6 done stat 662f
+log 6 6 done stat 66
+log 7 6 done read 66 2 0 5
+take 1.1 0
+done 1.1 0 ok
+take 2.1 0
+done 2.1 2 ok o1k o2k
+take 2.2 2
+done 2.2 2 ok r1 r2
+take 4.1 3
+done 4.1 3 ok r2
+take 4.2 3
+done 4.2 4 ok
+tick 4 10
+take 6.1 4
+done 6.1 6 ok o5k o6k
+take 6.2 6
+done 6.2 6 ok r6
+take 6.3 6
+done 6.3 7 ok
+end
+",
+};
+
 /// What does a rename leave when one of its operations fails?
 const RENAME_THAT_FAILS: Example<'static> = Example {
-    scenario: r#"{"objects": [{"name": "one", "hex": "31"}, {"name": "two", "hex": "32"}, {"name": "three", "hex": "33"}],
+    scenario: r#"{"config": {"stat_lifetime": 0, "type_lifetime": 0},
+"objects": [{"name": "one", "hex": "31"}, {"name": "two", "hex": "32"}, {"name": "three", "hex": "33"}],
 "faults": [{"moment": 3, "mode": "failed"}, {"moment": 7, "mode": "failed"}, {"moment": 11, "mode": "lost"}],
 "phases": [
 [{"calls": [
@@ -404,28 +468,29 @@ log 22 3 done stat 7468726565
 take 1.1 0
 done 1.1 0 ok
 take 2.1 0
-done 2.1 3 ok o1d o2d
+done 2.1 3 ok o1k o2k
 take 2.2 3
-done 2.2 7 ok o4d o5d
+done 2.2 7 ok o4k o5k
 take 2.3 7
-done 2.3 11 ok o8d o9d
+done 2.3 11 ok o8k o9k
 take 2.4 11
 done 2.4 12 ok
 take 2.5 12
 done 2.5 12 ok
 take 3.1 12
-done 3.1 16 ok o13d o14d
+done 3.1 16 ok o13k o14k
 take 3.2 16
-done 3.2 20 ok o17d o18d
+done 3.2 20 ok o17k o18k
 take 3.3 20
-done 3.3 22 ok o21d o22d
+done 3.3 22 ok o21k o22k
 end
 ",
 };
 
 /// What does a reader see while another replaces the file?
 const REPLACED_WHILE_READ: Example<'static> = Example {
-    scenario: r#"{"objects": [{"name": "f", "hex": "68656c6c6f20776f726c64"}],
+    scenario: r#"{"config": {"stat_lifetime": 0, "type_lifetime": 0},
+"objects": [{"name": "f", "hex": "68656c6c6f20776f726c64"}],
 "phases": [
 [{"calls": [
 {"frame": "380000001a0000000100000000000000000000000000000000000000000000000000000000000000070000001f00000000000200ffffffff"}]}],
@@ -467,19 +532,19 @@ log 11 4 done read 66 2 0 7
 take 1.1 0
 done 1.1 0 ok
 take 2.1 0
-done 2.1 2 ok o1d o2d
+done 2.1 2 ok o1k o2k
 take 2.2 2
-done 2.2 3 ok o3d
+done 2.2 3 ok o3k
 take 2.3 3
 done 2.3 4 ok
 take 4.1 5
 done 4.1 6 ok
 take 4.2 6
-done 4.2 7 ok o7d
+done 4.2 7 ok o7k
 take 4.3 7
-done 4.3 9 ok o8d o9d
+done 4.3 9 ok o8k o9k
 take 4.4 9
-done 4.4 10 ok o10d
+done 4.4 10 ok o10k
 take 4.5 10
 done 4.5 11 ok
 end
@@ -488,7 +553,8 @@ end
 
 /// What does a stale writer get?
 const STALE_WRITER: Example<'static> = Example {
-    scenario: r#"{"objects": [{"name": "f", "hex": "68656c6c6f"}],
+    scenario: r#"{"config": {"stat_lifetime": 0, "type_lifetime": 0},
+"objects": [{"name": "f", "hex": "68656c6c6f"}],
 "phases": [
 [{"calls": [
 {"frame": "380000001a0000000100000000000000000000000000000000000000000000000000000000000000070000001f00000000000200ffffffff"}]}],
@@ -528,9 +594,9 @@ log 9 4 done read 66 2 0 5
 take 1.1 0
 done 1.1 0 ok
 take 2.1 0
-done 2.1 2 ok o1d o2d
+done 2.1 2 ok o1k o2k
 take 2.2 2
-done 2.2 3 ok o3d
+done 2.2 3 ok o3k
 take 2.3 3
 done 2.3 3 ok
 take 4.1 4
@@ -538,9 +604,9 @@ done 4.1 5 ok
 take 4.2 5
 done 4.2 5 ok
 take 4.3 5
-done 4.3 7 ok o6d o7d
+done 4.3 7 ok o6k o7k
 take 4.4 7
-done 4.4 8 ok o8d
+done 4.4 8 ok o8k
 take 4.5 8
 done 4.5 9 ok
 end
@@ -549,7 +615,8 @@ end
 
 /// What happens to a file that is unlinked while it is open?
 const UNLINKED_WHILE_OPEN: Example<'static> = Example {
-    scenario: r#"{"objects": [{"name": "old", "hex": "68656c6c6f"}],
+    scenario: r#"{"config": {"stat_lifetime": 0, "type_lifetime": 0},
+"objects": [{"name": "old", "hex": "68656c6c6f"}],
 "phases": [
 [{"calls": [
 {"frame": "380000001a0000000100000000000000000000000000000000000000000000000000000000000000070000001f00000000000200ffffffff"}]}],
@@ -597,15 +664,15 @@ log 10 3 done insert 6472616674 2 0 676373667573655f6d74696d65=313937302d30312d3
 take 1.1 0
 done 1.1 0 ok
 take 2.1 0
-done 2.1 2 ok o1d o2d
+done 2.1 2 ok o1k o2k
 take 2.2 2
-done 2.2 3 ok o3d
+done 2.2 3 ok o3k
 take 2.3 3
 done 2.3 4 ok
 take 2.4 4
 done 2.4 5 ok
 take 2.5 5
-done 2.5 6 ok o6d
+done 2.5 6 ok o6k
 take 2.6 6
 done 2.6 7 ok
 take 3.1 7
@@ -636,6 +703,7 @@ fn each_example_has_its_history(rt: HostRuntime) -> Result<(), Fail> {
         LOST_FLUSH,
         NO_PLACEHOLDER,
         OPEN_AFTER_CLOSE,
+        RECORD_SERVES,
         RENAME_THAT_FAILS,
         REPLACED_WHILE_READ,
         STALE_WRITER,

@@ -10,21 +10,23 @@ use std::thread::Threads;
 
 /// What the one lane of a phase does.
 #[derive(Clone, Copy)]
-enum Lane<'a> {
+pub(crate) enum Lane<'a> {
     /// It makes calls: the frame of each, and of its reply.
     Calls(&'a [(&'a str, &'a str)]),
     /// It writes beside the mount: its operations, as they stand in a scenario.
     Remote(&'a str),
+    /// It lets seconds pass, as they stand in a scenario.
+    Clock(&'a str),
 }
 
 /// A scenario of phases with one lane each, and what its history tells.
 #[derive(Clone, Copy)]
-struct Scene<'a> {
+pub(crate) struct Scene<'a> {
     /// The members of the scenario in front of its phases, each with its comma.
-    start: &'a str,
-    phases: &'a [Lane<'a>],
+    pub(crate) start: &'a str,
+    pub(crate) phases: &'a [Lane<'a>],
     /// The lines behind the replies.
-    told: &'a str,
+    pub(crate) told: &'a str,
 }
 
 /// The text of a scenario.
@@ -45,13 +47,17 @@ fn scenario_of(alloc: Global, scene: Scene<'_>) -> Result<String, Fail> {
 fn push_lane(text: &mut String, lane: Lane<'_>) -> Result<(), Fail> {
     match lane {
         Lane::Calls(calls) => push_calls(text, calls),
-        Lane::Remote(operations) => {
-            text.push_str(r#"{"remote":["#)?;
-            text.push_str(operations)?;
-            text.push_str("]}")?;
-            Ok(())
-        }
+        Lane::Remote(operations) => push_items(text, "remote", operations),
+        Lane::Clock(seconds) => push_items(text, "clock", seconds),
     }
+}
+
+/// Puts a lane of items that stand as in a scenario behind its text.
+fn push_items(text: &mut String, kind: &str, items: &str) -> Result<(), Fail> {
+    for part in [r#"{""#, kind, r#"":["#, items, "]}"] {
+        text.push_str(part)?;
+    }
+    Ok(())
 }
 
 /// Puts a lane of calls behind the text of a scenario.
@@ -101,7 +107,7 @@ fn push_replies(
 }
 
 /// Plays a scenario with `gcsmount play`, and compares its history.
-fn plays<T: Threads + Wait + Sync + Abort>(
+pub(crate) fn plays<T: Threads + Wait + Sync + Abort>(
     rt: &T,
     alloc: Global,
     scene: Scene<'_>,
@@ -262,10 +268,12 @@ fn a_flush_is_played_whole_lost_and_failed(rt: HostRuntime) -> Result<(), Fail> 
 
 // ---- a writer beside the mount
 /// An object `f` that holds `hello`.
-const HELLO: &str = r#""objects":[{"name":"f","hex":"68656c6c6f"}],"#;
+pub(crate) const HELLO: &str = r#""objects":[{"name":"f","hex":"68656c6c6f"}],"#;
 
 /// It is replaced by one that holds `world`.
-const REPLACE: Lane<'static> = Lane::Remote(r#"{"act":"write","name":"f","hex":"776f726c64"}"#);
+pub(crate) const REPLACE: Lane<'static> = Lane::Remote(
+    r#"{"act":"write","name":"f","hex":"776f726c64"}"#,
+);
 
 /// It is deleted, and an equal one is written.
 const WRITE_ANEW: Lane<'static> = Lane::Remote(
@@ -273,26 +281,26 @@ const WRITE_ANEW: Lane<'static> = Lane::Remote(
 );
 
 /// LOOKUP of `f` in node 1, unique 2.
-const LOOKUP: &str =
+pub(crate) const LOOKUP: &str =
     "2a000000010000000200000000000000010000000000000000000000000000000000000000000000\
 6600";
 
 /// Its reply: node 2, a file of five bytes and time 0.
-const NODE_2: &str =
+pub(crate) const NODE_2: &str =
     "90000000000000000200000000000000020000000000000000000000000000000000000000000000\
 00000000000000000000000000000000020000000000000005000000000000000100000000000000\
 000000000000000000000000000000000000000000000000000000000000000000000000a4810000\
 010000000000000000000000000000000010000000000000";
 
 /// Its reply where that is node 3.
-const NODE_3: &str =
+pub(crate) const NODE_3: &str =
     "90000000000000000200000000000000030000000000000000000000000000000000000000000000\
 00000000000000000000000000000000030000000000000005000000000000000100000000000000\
 000000000000000000000000000000000000000000000000000000000000000000000000a4810000\
 010000000000000000000000000000000010000000000000";
 
 /// OPEN of node 2, unique 3.
-const OPEN: &str =
+pub(crate) const OPEN: &str =
     "300000000e0000000300000000000000020000000000000000000000000000000000000000000000\
 0000000000000000";
 
@@ -307,7 +315,7 @@ const OPEN_3: &str =
 0000000000000000";
 
 /// The reply to the two of unique 3: handle 1.
-const OPENED: &str = "2000000000000000030000000000000001000000000000000000000000000000";
+pub(crate) const OPENED: &str = "2000000000000000030000000000000001000000000000000000000000000000";
 
 /// WRITE of `HELLO` at 0 through handle 1 of node 2, unique 4.
 const WRITE: &str =
@@ -357,21 +365,20 @@ const REPLACED: Scene<'static> = Scene {
     told: "object 66 2 1 0 5 776f726c64 -
 log 1 1 done stat 662f
 log 2 1 done stat 66
-log 3 1 done stat 66
-log 4 2 done insert 66 * 0 - 776f726c64
-log 5 3 done insert 66 1 0 676373667573655f6d74696d65=313937302d30312d30315430303a30303a30302e3030303030303030305a 48454c4c4f
+log 3 2 done insert 66 * 0 - 776f726c64
+log 4 3 done insert 66 1 0 676373667573655f6d74696d65=313937302d30312d30315430303a30303a30302e3030303030303030305a 48454c4c4f
 take 1.1 0
 done 1.1 0 ok
 take 1.2 0
-done 1.2 2 ok o1d o2d
+done 1.2 2 ok o1k o2k
 take 1.3 2
-done 1.3 3 ok o3d
-take 1.4 3
-done 1.4 3 ok
-take 3.1 4
-done 3.1 5 ok
-take 3.2 5
-done 3.2 5 ok
+done 1.3 2 ok r2
+take 1.4 2
+done 1.4 2 ok
+take 3.1 3
+done 3.1 4 ok
+take 3.2 4
+done 3.2 4 ok
 end
 ",
 };
@@ -383,29 +390,29 @@ const WRITTEN_ANEW: Scene<'static> = Scene {
     told: "object 66 2 1 0 5 68656c6c6f -
 log 1 1 done stat 662f
 log 2 1 done stat 66
-log 3 1 done stat 66
-log 4 2 done delete 66 *
-log 5 2 done insert 66 * 0 - 68656c6c6f
-log 6 3 done insert 66 1 0 676373667573655f6d74696d65=313937302d30312d30315430303a30303a30302e3030303030303030305a 48454c4c4f
+log 3 2 done delete 66 *
+log 4 2 done insert 66 * 0 - 68656c6c6f
+log 5 3 done insert 66 1 0 676373667573655f6d74696d65=313937302d30312d30315430303a30303a30302e3030303030303030305a 48454c4c4f
 take 1.1 0
 done 1.1 0 ok
 take 1.2 0
-done 1.2 2 ok o1d o2d
+done 1.2 2 ok o1k o2k
 take 1.3 2
-done 1.3 3 ok o3d
-take 1.4 3
-done 1.4 3 ok
-take 3.1 5
-done 3.1 6 ok
-take 3.2 6
-done 3.2 6 ok
+done 1.3 2 ok r2
+take 1.4 2
+done 1.4 2 ok
+take 3.1 4
+done 3.1 5 ok
+take 3.2 5
+done 3.2 5 ok
 end
 ",
 };
 
-/// It is replaced between a look-up and an open: the open is ESTALE, and the next look-up shows another node.
+/// It is replaced between a look-up and an open, where no record serves: the open is ESTALE, and the next look-up shows
+/// another node.
 const FOUND_AND_REPLACED: Scene<'static> = Scene {
-    start: HELLO,
+    start: r#""config":{"stat_lifetime":0,"type_lifetime":0},"objects":[{"name":"f","hex":"68656c6c6f"}],"#,
     phases: &[
         Lane::Calls(&[(INIT, INIT_DONE), (LOOKUP, NODE_2)]),
         REPLACE,
@@ -428,13 +435,13 @@ log 8 3 done read 66 2 0 5
 take 1.1 0
 done 1.1 0 ok
 take 1.2 0
-done 1.2 2 ok o1d o2d
+done 1.2 2 ok o1k o2k
 take 3.1 3
-done 3.1 4 ok o4d
+done 3.1 4 ok o4k
 take 3.2 4
-done 3.2 6 ok o5d o6d
+done 3.2 6 ok o5k o6k
 take 3.3 6
-done 3.3 7 ok o7d
+done 3.3 7 ok o7k
 take 3.4 7
 done 3.4 8 ok
 end
@@ -483,7 +490,7 @@ log 4 1 done delete 61 1
 take 1.1 0
 done 1.1 0 ok
 take 1.2 0
-done 1.2 4 ok o1d o2d
+done 1.2 4 ok o1k o2k
 end
 ",
 };
@@ -499,7 +506,7 @@ log 3 1 done update 66 1 * 0 676373667573655f6d74696d65=313937302d30312d30315430
 take 1.1 0
 done 1.1 0 ok
 take 1.2 0
-done 1.2 2 ok o1d o2d
+done 1.2 2 ok o1k o2k
 take 1.3 2
 done 1.3 3 ok
 end
